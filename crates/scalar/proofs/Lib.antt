@@ -1,0 +1,4 @@
+pub mod RingLaws
+pub mod ModularRing
+pub mod PairedRing
+pub mod FloatValues

@@ -1,0 +1,7 @@
+use mathlib.Core.Path.{ap, _∙_}
+use lib.Ieee.{eq}
+use Rattle.scalar.proofs.FloatValues.{zero-bits-32, is-zero}
+use Rattle.scalar.proofs.floats.is_zero_32.Needs as need
+
+pub returns : need.returns
+returns c = ap (eq (c .args .x)) zero-bits-32 ∙ is-zero (c .args .x)
