@@ -1,0 +1,4 @@
+pub mod Verdicts
+pub mod Blocks
+pub mod Cells
+pub mod Parts
