@@ -2,3 +2,4 @@ pub mod RingLaws
 pub mod ModularRing
 pub mod PairedRing
 pub mod FloatValues
+pub mod Stored

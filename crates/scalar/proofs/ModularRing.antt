@@ -18,8 +18,8 @@ module _ (m : ℕ) where
   pub mul-mod-mod : (a b : ℕ) → (a * (b % m)) % m ≡ (a * b) % m
   mul-mod-mod a b =
       let whole : m * (a * (b / m)) + a * (b % m) ≡ a * b =
-        ap (λ n. n + a * (b % m)) (sym (mul-assoc m a (b / m)) ∙ ap (λ n. n * (b / m)) (mul-comm m a) ∙ mul-assoc a m (b / m))
-        ∙ sym (mul-add a (m * (b / m)) (b % m)) ∙ ap (λ n. a * n) (div-add-mod b m) in
+      ap (λ n. n + a * (b % m)) (sym (mul-assoc m a (b / m)) ∙ ap (λ n. n * (b / m)) (mul-comm m a) ∙ mul-assoc a m (b / m))
+      ∙ sym (mul-add a (m * (b / m)) (b % m)) ∙ ap (λ n. a * n) (div-add-mod b m) in
       sym (mul-add-mod-self-left m (a * (b / m)) (a * (b % m))) ∙ ap (λ n. n % m) whole
 
   pub mod-mul-mod : (a b : ℕ) → (a % m * b) % m ≡ (a * b) % m
@@ -45,7 +45,7 @@ module _ (m : ℕ) (above : 0 < m) where
       let gone : (r + k) % m ≡ 0 = add-mod-mod r a m ∙ e in
       below-same _ _
       (sym (mod-self-add r) ∙ ap (λ n. (r + n) % m) (sym back) ∙ ap (λ n. n % m) (sym (add-assoc r k (m - k)))
-       ∙ sym (mod-add-mod (r + k) m (m - k)) ∙ ap (λ n. (n + (m - k)) % m) gone ∙ ap (λ n. n % m) (zero-add (m - k)))
+      ∙ sym (mod-add-mod (r + k) m (m - k)) ∙ ap (λ n. (n + (m - k)) % m) gone ∙ ap (λ n. n % m) (zero-add (m - k)))
     where
       mod-self-add : (n : ℕ) → (n + m) % m ≡ n % m
       mod-self-add n = add-mod-right n m
@@ -56,22 +56,22 @@ module _ (m : ℕ) (above : 0 < m) where
   pub modular-ring : Ring (modular m above)
   modular-ring = record {
     plus-assoc = λ a b c. below-same _ _
-      (mod-add-mod (a .number + b .number) m (c .number) ∙ ap (λ n. n % m) (add-assoc (a .number) (b .number) (c .number))
-       ∙ sym (add-mod-mod (a .number) (b .number + c .number) m));
+        (mod-add-mod (a .number + b .number) m (c .number) ∙ ap (λ n. n % m) (add-assoc (a .number) (b .number) (c .number))
+        ∙ sym (add-mod-mod (a .number) (b .number + c .number) m));
     plus-comm = λ a b. below-same _ _ (ap (λ n. n % m) (add-comm (a .number) (b .number)));
     plus-zero = λ a. below-same _ _ (add-mod-mod (a .number) 0 m ∙ ap (λ n. n % m) (add-zero (a .number)) ∙ kept a);
     plus-minus = λ a.
-      let less = a .less in
-      let back : a .number + (m - a .number) ≡ m = omega arith in
-      below-same _ _ (add-mod-mod (a .number) (m - a .number) m ∙ ap (λ n. n % m) back ∙ mod-self m ∙ sym (zero-mod m));
+        let less = a .less in
+        let back : a .number + (m - a .number) ≡ m = omega arith in
+        below-same _ _ (add-mod-mod (a .number) (m - a .number) m ∙ ap (λ n. n % m) back ∙ mod-self m ∙ sym (zero-mod m));
     times-assoc = λ a b c. below-same _ _
-      (mod-mul-mod m (a .number * b .number) (c .number) ∙ ap (λ n. n % m) (mul-assoc (a .number) (b .number) (c .number))
-       ∙ sym (mul-mod-mod m (a .number) (b .number * c .number)));
+        (mod-mul-mod m (a .number * b .number) (c .number) ∙ ap (λ n. n % m) (mul-assoc (a .number) (b .number) (c .number))
+        ∙ sym (mul-mod-mod m (a .number) (b .number * c .number)));
     times-comm = λ a b. below-same _ _ (ap (λ n. n % m) (mul-comm (a .number) (b .number)));
     times-one = λ a. below-same _ _ (mul-mod-mod m (a .number) 1 ∙ ap (λ n. n % m) (mul-one (a .number)) ∙ kept a);
     times-plus = λ a b c. below-same _ _
-      (mul-mod-mod m (a .number) (b .number + c .number) ∙ ap (λ n. n % m) (mul-add (a .number) (b .number) (c .number))
-       ∙ add-mod (a .number * b .number) (a .number * c .number) m);
+        (mul-mod-mod m (a .number) (b .number + c .number) ∙ ap (λ n. n % m) (mul-add (a .number) (b .number) (c .number))
+        ∙ add-mod (a .number * b .number) (a .number * c .number) m);
     zero-only = λ a e. below-same _ _ (eqb-true (a .number) 0 e ∙ sym (zero-mod m));
   }
 
@@ -81,5 +81,6 @@ below-set m = hedberg same?
     decided : (a b : Below m) → Dec (a .number ≡ b .number) → Dec (a ≡ b)
     decided a b (yes e) = yes (below-same a b e)
     decided a b (no f) = no (λ q. f (ap (λ (x : Below m). x .number) q))
+
     same? : Discrete (Below m)
     same? a b = decided a b (ℕ-discrete (a .number) (b .number))

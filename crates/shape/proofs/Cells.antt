@@ -49,7 +49,7 @@ module _ {S : Type 0} (t : TableShape) where
     written = λ b j i d w h.
         let e : c + (j - c) ≡ j = omega arith in
         let place : a + ((j - c) * t .rows + i) ≡ cell t b j i =
-            ap (λ z. z + ((j - c) * t .rows + i)) at-a ∙ cell-from t l c (j - c) i ∙ ap (λ z. cell t l z i) e ∙ ap (λ z. cell t z j i) (sym (h .0)) in
+        ap (λ z. z + ((j - c) * t .rows + i)) at-a ∙ cell-from t l c (j - c) i ∙ ap (λ z. cell t l z i) e ∙ ap (λ z. cell t z j i) (sym (h .0)) in
         rw (sym place) (wrote .written ((j - c) * t .rows + i) d (digits-lt (omega arith) (w .row)));
     kept = λ b j i d w n′. wrote .kept (cell t b j i) d (rw at-a (band-apart t l c n b j i within (w .col) (w .row) n′));
   }

@@ -13,6 +13,10 @@ pub record Changed {S : Type 0} (t : TableShape) (D : ℕ → ℕ → ℕ → Ty
   pub written : (b j i : ℕ) (d : S) → In t b j i → D b j i → P b j i (getD cur (cell t b j i) d)
   pub kept : (b j i : ℕ) (d : S) → In t b j i → (D b j i → ⊥) → getD cur (cell t b j i) d ≡ getD old (cell t b j i) d
 
+-- the value means what `new` says of its cell
+abbrev pub meant : {S M : Type 0} → (S → M) → (ℕ → ℕ → ℕ → M) → ℕ → ℕ → ℕ → S → Type 0
+meant means new b j i v = means v ≡ new b j i
+
 -- the same of the k entries from place a on
 pub record RunChanged {S : Type 0} (a k : ℕ) (P : ℕ → S → Type 0) (old cur : List S) : Type 0 where
   pub written : (i : ℕ) (d : S) → i < k → P i (getD cur (a + i) d)

@@ -131,12 +131,7 @@ fn test_tables(x: TableShape, x_len: usize, y: TableShape, y_len: usize) -> Resu
 }
 
 /// The tests of a call that reads table x cell by cell into table y, and what acceptance tells.
-pub fn check_tables(
-    x: TableShape,
-    x_len: usize,
-    y: TableShape,
-    y_len: usize,
-) -> Result<(), Refusal>
+pub fn check_tables(x: TableShape, x_len: usize, y: TableShape, y_len: usize) -> Result<(), Refusal>
     ensures verdict { λ r. ⌜ answer r ≡ firstOf (tableTests x «x_len» y «y_len») ⌝ }
     ensures lawful { λ r. ⌜ (answer r ≡ 0 → TablesLawful x «x_len» y «y_len») ⌝ }
 {

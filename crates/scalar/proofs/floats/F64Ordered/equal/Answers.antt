@@ -8,6 +8,7 @@ use Rattle.scalar.proofs.floats.F64Ordered.equal.Needs as need
 pub returns : need.returns
 returns c =
     let a = c .f64-to-bits-with-nan .ensures in
-    let b = c .f64-to-bits-with-nan-2 .ensures in
-    ( λ e. same-bits binary64 (c .args .self) (c .args .other) (subst T (sym (c .good .0 .1)) tt) (subst T (sym (c .good .1 .0 .1)) tt) (sym a ∙ eqb-true _ _ e ∙ b)
-    , λ e. eq-eqb _ _ (a ∙ ap (toBits binary64) e ∙ sym b))
+    let b = c .f64-to-bits-with-nan-2 .ensures in (
+      λ e. same-bits binary64 (c .args .self) (c .args .other) (subst T (sym (c .good .0 .1)) tt) (subst T (sym (c .good .1 .0 .1)) tt) (sym a ∙ eqb-true _ _ e ∙ b),
+      λ e. eq-eqb _ _ (a ∙ ap (toBits binary64) e ∙ sym b),
+    )
