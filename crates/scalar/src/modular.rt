@@ -52,13 +52,21 @@ const MODULUS: u64 = 2147483647;
 #[derive(Clone, Copy, Debug)]
 pub struct Residue(pub u64);
 
+/// The number below the modulus that means the same.
+fn reduced(number: u64) -> u64
+    ensures means { λ r. ⌜ residue r ≡ residue number ⌝ }
+    ensures stored { λ r. ⌜ r < modulus ⌝ }
+{
+    number % MODULUS
+}
+
 impl Residue {
-    /// The meaning of any number, stored below the modulus.
+    /// What any number means, stored below the modulus.
     pub fn of(number: u64) -> Residue
         ensures means { λ r. ⌜ residue (r .0) ≡ residue number ⌝ }
         ensures stored { λ r. ⌜ r .0 < modulus ⌝ }
     {
-        Residue(number % MODULUS)
+        Residue(reduced(number))
     }
 }
 
