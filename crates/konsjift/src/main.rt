@@ -10,6 +10,7 @@ use std::io;
 use vector::axpy;
 
 const ROWS: usize = 2;
+
 const LANES: usize = 3;
 
 fn show(rt: &LibcRuntime, when: &str, exact: &[Residue; 6], float: &[f64; 6]) -> io::Result<()> {
@@ -49,14 +50,40 @@ fn main(rt: LibcRuntime) -> io::Result<()> {
     let rest = Column::vector(ROWS, LANES);
     let load = Column::vector(ROWS, 1);
     show(&rt, "before", &exact, &float)?;
-    println!(rt, "rest becomes 2 load + 1 rest, one load of 10 15 for every lane")?;
+    println!(
+        rt,
+        "rest becomes 2 load + 1 rest, one load of 10 15 for every lane"
+    )?;
     let x = [Residue(10), Residue(15)];
-    told(&rt, axpy(Scale(Residue(2)), load, &x, Scale(Residue(1)), rest, &mut exact))?;
-    told(&rt, axpy(Scale(2.0), load, &[10.0, 15.0], Scale(1.0), rest, &mut float))?;
+    told(
+        &rt,
+        axpy(
+            Scale(Residue(2)),
+            load,
+            &x,
+            Scale(Residue(1)),
+            rest,
+            &mut exact,
+        ),
+    )?;
+    told(
+        &rt,
+        axpy(
+            Scale(2.0),
+            load,
+            &[10.0, 15.0],
+            Scale(1.0),
+            rest,
+            &mut float,
+        ),
+    )?;
     show(&rt, "after", &exact, &float)?;
     println!(rt, "the same from a load of two lanes")?;
     let two = Column::vector(ROWS, 2);
     let xs = [10.0, 15.0, 20.0, 25.0];
-    told(&rt, axpy(Scale(2.0), two, &xs, Scale(1.0), rest, &mut float))?;
+    told(
+        &rt,
+        axpy(Scale(2.0), two, &xs, Scale(1.0), rest, &mut float),
+    )?;
     show(&rt, "still", &exact, &float)
 }

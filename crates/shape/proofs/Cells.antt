@@ -8,7 +8,7 @@ use lib.Arith.{digits-lt}
 use lib.ListN.{getD}
 use Rattle.shape.specs.Shapes.{start, cell, In}
 use Rattle.std.proofs.shelf.Tests.{cases-eq}
-use Rattle.shape.specs.Changes.{Changed, RunChanged, InBand, LaneBand, LanesBand}
+use Rattle.shape.specs.Changes.{Changed, RunChanged, InColumn, InBand, LaneBand, LanesBand}
 use Rattle.shape.specs.declared.operand.TableShape.{TableShape}
 use Rattle.shape.proofs.Blocks.{band-apart, cell-from}
 
@@ -74,3 +74,22 @@ module _ {S : Type 0} (t : TableShape) where
   pub lanes-all : (l c n : ℕ) (P : ℕ → ℕ → ℕ → S → Type 0) (old cur : List S) → t .lanes ≤ l → Changed t (LanesBand l c n) P old cur → Changed t (InBand c n) P old cur
   lanes-all l c n P old cur end done =
       changed-as (LanesBand l c n) (InBand c n) P P old cur (λ b j i w h. (h .1, h .2)) (λ b j i w h. (omega (arith, w .lane), h .0, h .1)) (λ b j i v w h q. q) done
+
+  -- ---- the same for one column, whose run of a lane has as many entries as the table rows
+
+  pub column-more : (l c a : ℕ) (P : ℕ → ℕ → ℕ → S → Type 0) (Q : ℕ → S → Type 0) (old cur cur′ : List S) → a ≡ start t l c → c < t .cols
+      → ((i : ℕ) (v : S) → In t l c i → Q i v → P l c i v)
+      → Changed t (LanesBand l c 1) P old cur → RunChanged a (t .rows) Q cur cur′ → Changed t (LanesBand (l + 1) c 1) P old cur′
+  column-more l c a P Q old cur cur′ at-a within agree before wrote =
+      let one : 1 * t .rows ≡ t .rows = omega arith in
+      lanes-more l c 1 a P Q old cur cur′ at-a (omega arith)
+      (λ j i v w h k q.
+      let same : j ≡ c = omega arith in
+      let none : (j - c) * t .rows ≡ 0 * t .rows = ap (λ z. z * t .rows) (omega arith) in
+      let row : (j - c) * t .rows + i ≡ i = omega arith in
+      rw same (agree i v (record { lane = w .lane; col = within; row = w .row }) (rw row at q)))
+      before (rw one wrote)
+
+  pub column-all : (l c : ℕ) (P : ℕ → ℕ → ℕ → S → Type 0) (old cur : List S) → t .lanes ≤ l → Changed t (LanesBand l c 1) P old cur → Changed t (InColumn c) P old cur
+  column-all l c P old cur end done =
+      changed-as (LanesBand l c 1) (InColumn c) P P old cur (λ b j i w h. omega arith) (λ b j i w h. (omega (arith, w .lane), omega arith, omega arith)) (λ b j i v w h q. q) done

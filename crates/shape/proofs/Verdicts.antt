@@ -8,7 +8,7 @@ use lib.Dec.{eqb, leb, ltb}
 use Rattle.std.proofs.shelf.Tests.{and-parts, or-parts, ltb-true, ltb-false, leb-false, eqb-true, eqb-false, not-false}
 use Rattle.shape.specs.Shapes.{noLanes, tooLarge, misfit, noColumn, Fits, Lawful}
 use Rattle.shape.specs.Refusals.{firstOf}
-use Rattle.shape.specs.Operands.{shapeTests, columnTests, pairTests, PairLawful, tableTests, TablesLawful}
+use Rattle.shape.specs.Operands.{shapeTests, columnTests, twoTests, TwoLawful, pairTests, PairLawful, tableTests, TablesLawful}
 use Rattle.shape.specs.declared.operand.TableShape.{TableShape}
 use Rattle.shape.specs.declared.operand.Column.{Column}
 
@@ -55,19 +55,23 @@ shape-passed t len e = let p = clear (shapeTests t len) refl e in fits-of t len 
 pub column-passed : (v : Column) (len : ℕ) → firstOf (columnTests v len) ≡ 0 → Lawful v len
 column-passed v len e = let p = clear (columnTests v len) refl e in lawful-of v len (p .0) (p .1 .0) (p .1 .1 .0) (p .1 .1 .1 .0)
 
+pub two-clear : (x : Column) (xl : ℕ) (y : Column) (yl : ℕ) → noLanes (x .of) || noLanes (y .of) ≡ false → tooLarge (x .of) || tooLarge (y .of) ≡ false
+    → misfit (x .of) xl || misfit (y .of) yl ≡ false → noColumn x || noColumn y ≡ false → TwoLawful x xl y yl
+two-clear x xl y yl p₁ p₂ p₃ p₄ =
+    let lanes = or-parts (noLanes (x .of)) (noLanes (y .of)) p₁ in
+    let large = or-parts (tooLarge (x .of)) (tooLarge (y .of)) p₂ in
+    let size = or-parts (misfit (x .of) xl) (misfit (y .of) yl) p₃ in
+    let cols = or-parts (noColumn x) (noColumn y) p₄ in
+    record { source = lawful-of x xl (lanes .0) (large .0) (size .0) (cols .0); target = lawful-of y yl (lanes .1) (large .1) (size .1) (cols .1) }
+
+pub two-passed : (x : Column) (xl : ℕ) (y : Column) (yl : ℕ) → firstOf (twoTests x xl y yl) ≡ 0 → TwoLawful x xl y yl
+two-passed x xl y yl e = let p = clear (twoTests x xl y yl) refl e in two-clear x xl y yl (p .0) (p .1 .0) (p .1 .1 .0) (p .1 .1 .1 .0)
+
 pub pair-passed : (x : Column) (xl : ℕ) (y : Column) (yl : ℕ) → firstOf (pairTests x xl y yl) ≡ 0 → PairLawful x xl y yl
 pair-passed x xl y yl e =
     let p = clear (pairTests x xl y yl) refl e in
-    let lanes = or-parts (noLanes (x .of)) (noLanes (y .of)) (p .0) in
-    let large = or-parts (tooLarge (x .of)) (tooLarge (y .of)) (p .1 .0) in
-    let size = or-parts (misfit (x .of) xl) (misfit (y .of) yl) (p .1 .1 .0) in
-    let cols = or-parts (noColumn x) (noColumn y) (p .1 .1 .1 .0) in
-    record {
-      source = lawful-of x xl (lanes .0) (large .0) (size .0) (cols .0);
-      target = lawful-of y yl (lanes .1) (large .1) (size .1) (cols .1);
-      rows = eqb-true _ _ (not-false _ (p .1 .1 .1 .1 .0));
-      lanes = p .1 .1 .1 .1 .1 .0;
-    }
+    let two = two-clear x xl y yl (p .0) (p .1 .0) (p .1 .1 .0) (p .1 .1 .1 .0) in
+    record { source = two .source; target = two .target; rows = eqb-true _ _ (not-false _ (p .1 .1 .1 .1 .0)); lanes = p .1 .1 .1 .1 .1 .0 }
 
 pub tables-passed : (x : TableShape) (xl : ℕ) (y : TableShape) (yl : ℕ) → firstOf (tableTests x xl y yl) ≡ 0 → TablesLawful x xl y yl
 tables-passed x xl y yl e =

@@ -1,6 +1,6 @@
 -- The tests that calls on one operand, or on a source x and a destination y, have in common. Assumes nothing.
 use mathlib.Core.Bool.{Bool, false, not, _||_}
-use mathlib.Core.List.{List, [], _∷_}
+use mathlib.Core.List.{List, [], _∷_, _++_}
 use mathlib.Core.Path.{_≡_}
 use Prim.Native.Nat.{ℕ}
 use lib.Dec.{eqb}
@@ -17,15 +17,22 @@ shapeTests t len = (1, noLanes t) ∷ (2, tooLarge t) ∷ (3, misfit t len) ∷ 
 abbrev pub columnTests : Column → ℕ → List (ℕ × Bool)
 columnTests v len = (1, noLanes (v .of)) ∷ (2, tooLarge (v .of)) ∷ (3, misfit (v .of) len) ∷ (4, noColumn v) ∷ []
 
--- column x read row by row into column y
-abbrev pub pairTests : Column → ℕ → Column → ℕ → List (ℕ × Bool)
-pairTests x xl y yl =
+-- two columns, each in its memory
+abbrev pub twoTests : Column → ℕ → Column → ℕ → List (ℕ × Bool)
+twoTests x xl y yl =
     (1, noLanes (x .of) || noLanes (y .of))
     ∷ (2, tooLarge (x .of) || tooLarge (y .of))
     ∷ (3, misfit (x .of) xl || misfit (y .of) yl)
-    ∷ (4, noColumn x || noColumn y)
-    ∷ (7, not (eqb (x .of .rows) (y .of .rows)))
-    ∷ (8, noBroadcast (x .of .lanes) (y .of .lanes)) ∷ []
+    ∷ (4, noColumn x || noColumn y) ∷ []
+
+pub record TwoLawful (x : Column) (xl : ℕ) (y : Column) (yl : ℕ) : Type 0 where
+  pub source : Lawful x xl
+  pub target : Lawful y yl
+
+-- column x read row by row into column y
+abbrev pub pairTests : Column → ℕ → Column → ℕ → List (ℕ × Bool)
+pairTests x xl y yl =
+    twoTests x xl y yl ++ ((7, not (eqb (x .of .rows) (y .of .rows))) ∷ (8, noBroadcast (x .of .lanes) (y .of .lanes)) ∷ [])
 
 pub record PairLawful (x : Column) (xl : ℕ) (y : Column) (yl : ℕ) : Type 0 where
   pub source : Lawful x xl

@@ -4,7 +4,7 @@ ghost use mathlib.Core.Bool.{Bool, false};
 ghost use Prim.Native.Nat.{ℕ};
 ghost use Rattle.shape.specs.Shapes.{noLanes, tooLarge, misfit, noColumn, Fits, Lawful};
 ghost use Rattle.shape.specs.Refusals.{answer, firstOf};
-ghost use Rattle.shape.specs.Operands.{shapeTests, columnTests, pairTests, PairLawful, tableTests, TablesLawful};
+ghost use Rattle.shape.specs.Operands.{shapeTests, columnTests, twoTests, TwoLawful, pairTests, PairLawful, tableTests, TablesLawful};
 use crate::Column;
 use crate::Refusal;
 use crate::TableShape;
@@ -77,21 +77,45 @@ pub fn check_column(v: Column, len: usize) -> Result<(), Refusal>
     test_column(v, len)
 }
 
+/// The tests of the numbers 1 to 4 over every column operand that is named with its memory's
+/// length: one text for calls of any number of operands.
+#[macro_export]
+macro_rules! refuse_columns {
+    ($($v:expr, $len:expr);+) => {
+        if $($crate::check::no_lanes($v.of))|+ {
+            return Err($crate::Refusal::NoLanes);
+        }
+        if $($crate::check::too_large($v.of))|+ {
+            return Err($crate::Refusal::TooLarge);
+        }
+        if $($crate::check::misfits($v.of, $len))|+ {
+            return Err($crate::Refusal::Memory);
+        }
+        if $($crate::check::no_column($v))|+ {
+            return Err($crate::Refusal::NoColumn);
+        }
+    };
+}
+
+fn test_two(x: Column, x_len: usize, y: Column, y_len: usize) -> Result<(), Refusal>
+    ensures { λ r. ⌜ answer r ≡ firstOf (twoTests x «x_len» y «y_len») ⌝ }
+{
+    refuse_columns!(x, x_len; y, y_len);
+    Ok(())
+}
+
+/// The tests that every call on two columns begins with, and what passing them tells.
+pub fn check_two(x: Column, x_len: usize, y: Column, y_len: usize) -> Result<(), Refusal>
+    ensures verdict { λ r. ⌜ answer r ≡ firstOf (twoTests x «x_len» y «y_len») ⌝ }
+    ensures lawful { λ r. ⌜ (answer r ≡ 0 → TwoLawful x «x_len» y «y_len») ⌝ }
+{
+    test_two(x, x_len, y, y_len)
+}
+
 fn test_pair(x: Column, x_len: usize, y: Column, y_len: usize) -> Result<(), Refusal>
     ensures { λ r. ⌜ answer r ≡ firstOf (pairTests x «x_len» y «y_len») ⌝ }
 {
-    if no_lanes(x.of) | no_lanes(y.of) {
-        return Err(Refusal::NoLanes);
-    }
-    if too_large(x.of) | too_large(y.of) {
-        return Err(Refusal::TooLarge);
-    }
-    if misfits(x.of, x_len) | misfits(y.of, y_len) {
-        return Err(Refusal::Memory);
-    }
-    if no_column(x) | no_column(y) {
-        return Err(Refusal::NoColumn);
-    }
+    refuse_columns!(x, x_len; y, y_len);
     if x.of.rows != y.of.rows {
         return Err(Refusal::Counts);
     }

@@ -1,7 +1,7 @@
 //! The shape of a table, and a column of every lane of it as an operand.
 ghost use mathlib.Core.Path.{_≡_};
 ghost use Prim.Native.Nat.{ℕ, _<_, _≤_};
-ghost use Rattle.shape.specs.Shapes.{start, columnOf, whole, bandOf, allOf, Fits};
+ghost use Rattle.shape.specs.Shapes.{start, columnOf, whole, bandOf, allOf, Fits, Lawful};
 
 /// Rows, columns and lanes of a table. Cell (i, j) of lane b lies at (b·cols + j)·rows + i.
 #[derive(Clone, Copy, PartialEq, Debug)]
@@ -62,6 +62,16 @@ impl Column {
         }
     }
 
+    /// Where the column's run of a lane starts. It wraps, so it answers for every shape; what it
+    /// answers is promised for the lanes of a lawful operand.
+    pub fn start(self, lane: usize) -> usize
+        ensures { λ r. ⌜ ((len : ℕ) → Lawful self len → lane < self .of .lanes → r ≡ start (self .of) lane (self .col)) ⌝ }
+    {
+        lane.wrapping_mul(self.of.cols)
+            .wrapping_add(self.col)
+            .wrapping_mul(self.of.rows)
+    }
+
     /// The one column as a band.
     pub fn band(self) -> Band
         ensures { λ r. ⌜ r ≡ bandOf self ⌝ }
@@ -75,8 +85,7 @@ impl Column {
 }
 
 impl Band {
-    /// Where a lane's run starts. It wraps, so it answers for every shape; what it answers is
-    /// promised for the lanes of a shape that fits its memory.
+    /// Where a lane's run starts, promised for the lanes of a shape that fits its memory.
     pub fn start(self, lane: usize) -> usize
         ensures { λ r. ⌜ ((len : ℕ) → Fits (self .of) len → self .first ≤ self .of .cols → lane < self .of .lanes → r ≡ start (self .of) lane (self .first)) ⌝ }
     {

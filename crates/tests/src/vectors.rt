@@ -44,7 +44,12 @@ fn axpy_reads_any_stored_residue() -> Result<(), Fail> {
 #[test]
 fn two_lanes_go_into_six() -> Result<(), Fail> {
     let mut y = [Wrap(0); 6];
-    copy_from(Column::vector(1, 2), &[Wrap(4), Wrap(9)], Column::vector(1, 6), &mut y)?;
+    copy_from(
+        Column::vector(1, 2),
+        &[Wrap(4), Wrap(9)],
+        Column::vector(1, 6),
+        &mut y,
+    )?;
     check_eq(y[0].0, 4)?;
     check_eq(y[2].0, 4)?;
     check_eq(y[3].0, 9)?;
@@ -58,8 +63,22 @@ fn a_column_is_written_and_nothing_else() -> Result<(), Fail> {
         cols: 2,
         lanes: 2,
     };
-    let mut cells = [Wrap(1), Wrap(2), Wrap(3), Wrap(4), Wrap(5), Wrap(6), Wrap(7), Wrap(8)];
-    sub_into(Column::vector(2, 1), &[Wrap(10), Wrap(20)], t.column(1), &mut cells)?;
+    let mut cells = [
+        Wrap(1),
+        Wrap(2),
+        Wrap(3),
+        Wrap(4),
+        Wrap(5),
+        Wrap(6),
+        Wrap(7),
+        Wrap(8),
+    ];
+    sub_into(
+        Column::vector(2, 1),
+        &[Wrap(10), Wrap(20)],
+        t.column(1),
+        &mut cells,
+    )?;
     check_eq(cells[0].0, 1)?;
     check_eq(cells[1].0, 2)?;
     check_eq(cells[2].0, 7)?;
@@ -74,11 +93,26 @@ fn a_column_is_written_and_nothing_else() -> Result<(), Fail> {
 fn the_lowest_number_is_given() -> Result<(), Fail> {
     let mut y = [1.0; 6];
     let six = Column::vector(1, 6);
-    check_eq(number(copy_from(Column::vector(1, 4), &[1.0; 4], six, &mut y)), 8)?;
-    check_eq(number(copy_from(Column::vector(1, 4), &[1.0; 3], six, &mut y)), 3)?;
-    check_eq(number(copy_from(Column::vector(2, 4), &[1.0; 8], six, &mut y)), 7)?;
-    check_eq(number(copy_from(Column::vector(65537, 0), &[], six, &mut y)), 1)?;
-    check_eq(number(copy_from(Column::vector(65537, 1), &[], six, &mut y)), 2)?;
+    check_eq(
+        number(copy_from(Column::vector(1, 4), &[1.0; 4], six, &mut y)),
+        8,
+    )?;
+    check_eq(
+        number(copy_from(Column::vector(1, 4), &[1.0; 3], six, &mut y)),
+        3,
+    )?;
+    check_eq(
+        number(copy_from(Column::vector(2, 4), &[1.0; 8], six, &mut y)),
+        7,
+    )?;
+    check_eq(
+        number(copy_from(Column::vector(65537, 0), &[], six, &mut y)),
+        1,
+    )?;
+    check_eq(
+        number(copy_from(Column::vector(65537, 1), &[], six, &mut y)),
+        2,
+    )?;
     let huge = Column::vector(18446744073709551615, 18446744073709551615);
     check_eq(number(copy_from(huge, &[], six, &mut y)), 2)?;
     check(y[0] + y[5] == 2.0)

@@ -1,0 +1,3 @@
+pub mod Indices
+pub mod Routes
+pub mod Calls

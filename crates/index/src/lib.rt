@@ -1,0 +1,13 @@
+//! Calls on lists of rows: gather, scatter and their kin. Row counts need not agree; every index
+//! is tested before the first write.
+mod check;
+mod lanes;
+pub mod route;
+pub mod rows;
+mod runs;
+
+pub use rows::assign_at_indices;
+pub use rows::copy_from_indices;
+pub use rows::fill_index;
+pub use rows::gather;
+pub use rows::scatter;
