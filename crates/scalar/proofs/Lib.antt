@@ -3,3 +3,4 @@ pub mod ModularRing
 pub mod PairedRing
 pub mod FloatValues
 pub mod Stored
+pub mod SumLaws
