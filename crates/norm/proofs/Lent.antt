@@ -1,4 +1,4 @@
--- A lane's norm from the runs that were lent, and where they start. Assumes nothing.
+-- A lane's norm from the runs that were lent. Assumes nothing.
 use mathlib.Core.Path.{_≡_, refl, sym, ap, ap₂, _∙_}
 use mathlib.Core.List.{List}
 use Prim.Native.Nat.{ℕ, _+_, _-_, _*_, _<_, _≤_}
@@ -12,10 +12,6 @@ use Rattle.scalar.specs.Orders.{Order}
 use Rattle.scalar.specs.Sums.{at}
 use Rattle.scalar.proofs.Stored.{at-same}
 use Rattle.scalar.proofs.SumLaws.{sum-same}
-use Rattle.shape.specs.Shapes.{start, Lawful}
-use Rattle.shape.specs.Lanes.{laneFor}
-use Rattle.shape.specs.declared.operand.Column.{Column}
-use Rattle.shape.proofs.Blocks.{band-fits, lane-below}
 use Rattle.shape.proofs.Parts.{part-get, length-part}
 use Rattle.norm.specs.Norms.{weighted, mean, greatest, reduced}
 
@@ -46,22 +42,3 @@ module _ {M : Type 0} (o : Ops M) (order : Order M) (f : ℕ → M) where
 
   pub reduced-many : (n m : ℕ) → (n ≡ 1 → ⊥) → m ≡ n → reduced o order f n ≡ greatest o order f m
   reduced-many n m several e = ap (λ z. cond z (f 0) (greatest o order f n)) (ne-eqb n 1 several) ∙ ap (greatest o order f) (sym e)
-
--- where the run of column v starts that lane b of n reads, after a call of `lane_for` and one of `start`
-module _ (v : Column) (len n b read a : ℕ) (law : Lawful v len) (l : b < n) (few : n ≤ 4096)
-    (found : b < n → n ≤ 4096 → v .of .lanes ≤ 4096 → read ≡ laneFor b (v .of .lanes) n)
-    (starts : (len : ℕ) → Lawful v len → read < v .of .lanes → a ≡ start (v .of) read (v .col)) where
-  which : read ≡ laneFor b (v .of .lanes) n
-  which = found l few (law .fits .few-lanes)
-
-  below : read < v .of .lanes
-  below = rw which (lane-below b (v .of .lanes) n (law .fits .some) l)
-
-  pub reads-from : a ≡ start (v .of) (laneFor b (v .of .lanes) n) (v .col)
-  reads-from = starts len law below ∙ ap (λ z. start (v .of) z (v .col)) which
-
-  pub reads-within : a + v .of .rows ≤ len
-  reads-within =
-      let e = starts len law below in
-      let f = band-fits (v .of) len read (v .col) 1 (law .fits) below (omega (arith, law .within)) in
-      omega arith

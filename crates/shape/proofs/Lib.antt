@@ -2,3 +2,4 @@ pub mod Verdicts
 pub mod Blocks
 pub mod Cells
 pub mod Parts
+pub mod Broadcast

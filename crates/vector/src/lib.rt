@@ -1,6 +1,7 @@
 //! Calls on vectors and on columns of tables, over any scalar. Each call is the elementwise
 //! mechanism with a rule of its own; every source broadcasts, and a refusal writes nothing.
 pub mod arithmetic;
+pub mod batch;
 pub mod combine;
 pub mod store;
 
@@ -11,6 +12,7 @@ pub use arithmetic::div_assign;
 pub use arithmetic::mul_assign;
 pub use arithmetic::sub_assign;
 pub use arithmetic::sub_into;
+pub use batch::batched_axpy;
 pub use combine::axpy;
 pub use store::copy_from;
 pub use store::fill;

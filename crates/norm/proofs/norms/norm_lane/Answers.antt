@@ -4,7 +4,8 @@ use native.Mathlib.Omega.{arith}
 use lib.ListN.{length}
 use Rattle.scalar.specs.Sums.{at}
 use Rattle.shape.proofs.Blocks.{band-fits}
-use Rattle.norm.proofs.Lent.{mean-same, reads-from, reads-within}
+use Rattle.shape.proofs.Broadcast.{reads-from, reads-within}
+use Rattle.norm.proofs.Lent.{mean-same}
 use Rattle.norm.proofs.norms.norm_lane.Needs as need
 
 pub norm-part-requires : need.norm-part-requires

@@ -4,7 +4,7 @@ use native.Mathlib.Omega.{arith}
 use lib.ListN.{length}
 use Rattle.scalar.specs.Sums.{at}
 use Rattle.shape.proofs.Blocks.{band-fits}
-use Rattle.norm.proofs.Lent.{reads-from, reads-within}
+use Rattle.shape.proofs.Broadcast.{reads-from, reads-within}
 use Rattle.norm.proofs.Signs.{says-at}
 use Rattle.norm.proofs.roots.root_lane.Needs as need
 
