@@ -1,6 +1,9 @@
 //! One load, broadcast by axpy to the rest times of three lanes: exact and in f64 side by side.
+use norm::root_finding;
+use norm::squared_norm;
 use scalar::Residue;
 use scalar::Scale;
+use scalar::floats::F64Ordered;
 use scalar::floats::F64Scalar;
 use scalar::modular::ResidueScalar;
 use shape::Column;
@@ -34,6 +37,24 @@ fn told(rt: &LibcRuntime, answer: Result<(), Refusal>) -> io::Result<()> {
             let number = refusal.number();
             println!(rt, "refused with {number}: {refusal}")
         }
+    }
+}
+
+/// The error norm of a step over three lanes, and where two functions of it change sign.
+fn judge(rt: &LibcRuntime) -> io::Result<()> {
+    let error = [0.5, 1.5, -0.25, 0.75, 1.0, -2.0];
+    let rest = [90.0, 120.0, 75.0, 105.0, 110.0, 150.0];
+    let three = Column::vector(ROWS, LANES);
+    let one = Column::vector(ROWS, 1);
+    match squared_norm(three, &error, three, &rest, Scale(0.01), one, &[0.1, 0.1]) {
+        Ok(norm) => println!(rt, "squared norm of the error: {norm}")?,
+        Err(refusal) => told(rt, Err(refusal))?,
+    }
+    match root_finding(one, &[1.0, -1.0], one, &[-1.0, 3.0]) {
+        Ok((found, fraction, row)) => {
+            println!(rt, "root: at zero {found}, fraction {fraction}, row {row}")
+        }
+        Err(refusal) => told(rt, Err(refusal)),
     }
 }
 
@@ -85,5 +106,6 @@ fn main(rt: LibcRuntime) -> io::Result<()> {
         &rt,
         axpy(Scale(2.0), two, &xs, Scale(1.0), rest, &mut float),
     )?;
-    show(&rt, "still", &exact, &float)
+    show(&rt, "still", &exact, &float)?;
+    judge(&rt)
 }
