@@ -11,6 +11,7 @@ use Rattle.shape.specs.Refusals.{firstOf}
 use Rattle.shape.specs.declared.operand.Column.{Column}
 use Rattle.shape.proofs.Verdicts.{clear, lawful-of, two-clear}
 use Rattle.index.specs.Calls.{gatherTests, scatterTests, copyTests, assignTests, RouteLawful, AssignLawful}
+use Rattle.index.specs.Transposes.{backTests, BackLawful}
 use Rattle.index.specs.declared.route.Route.the-variants.{Gather, Scatter, Copy}
 use Rattle.index.specs.Indices.{outside, Inside}
 
@@ -44,3 +45,16 @@ pub assign-passed : (list : List ℕ) (y : Column) (yl : ℕ) → firstOf (assig
 assign-passed list y yl e =
     let p = clear (assignTests list y yl) refl e in
     record { target = lawful-of y yl (p .0) (p .1 .0) (p .1 .1 .0) (p .1 .1 .1 .0); inside = inside-of (y .of .rows) list (p .1 .1 .1 .1 .0) }
+
+pub back-passed : (p : Column) (pl : ℕ) (list : List ℕ) (q : Column) (ql : ℕ) → firstOf (backTests p pl list q ql) ≡ 0 → BackLawful p pl list q ql
+back-passed p pl list q ql e =
+    let s = clear (backTests p pl list q ql) refl e in
+    let two = two-clear p pl q ql (s .0) (s .1 .0) (s .1 .1 .0) (s .1 .1 .1 .0) in
+    let t = s .1 .1 .1 .1 in
+    record {
+      first = two .source;
+      second = two .target;
+      lanes = eqb-true _ _ (not-false _ (t .0));
+      long = eqb-true _ _ (not-false _ (t .1 .0));
+      inside = inside-of (q .of .rows) list (t .1 .1 .0);
+    }

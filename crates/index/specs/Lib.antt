@@ -1,3 +1,4 @@
 pub mod Indices
 pub mod Routes
 pub mod Calls
+pub mod Transposes

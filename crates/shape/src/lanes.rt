@@ -9,10 +9,14 @@ ghost use Rattle.shape.specs.Lanes.{laneFor, noBroadcast};
 pub fn no_broadcast(source: usize, lanes: usize) -> bool
     ensures { λ r. ⌜ r ≡ noBroadcast source lanes ⌝ }
 {
-    if source == 0 {
-        return lanes != 0;
+    // Equal counts are the common case, and need no division.
+    if source == lanes {
+        return false;
     }
-    !((source == lanes) | ((source == 1) | (lanes % source == 0)))
+    if source == 0 {
+        return true;
+    }
+    !((source == 1) | (lanes % source == 0))
 }
 
 /// The source lane that `lane`, of `lanes`, reads: ⌊lane·source/lanes⌋, so each source lane
