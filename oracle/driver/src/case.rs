@@ -215,6 +215,57 @@ impl<T: Real> Case<T> {
         }
     }
 
+    // ---- Cases by hand ----
+
+    pub fn counts(mut self, counts: &[usize]) -> Self {
+        self.counts = counts.to_vec();
+        self
+    }
+
+    pub fn factors(mut self, factors: &[f64]) -> Self {
+        self.factors = factors.iter().map(|v| T::of_f64(*v)).collect();
+        self
+    }
+
+    pub fn numbers(mut self, numbers: &[f64]) -> Self {
+        self.numbers = numbers.iter().map(|v| T::of_f64(*v)).collect();
+        self
+    }
+
+    pub fn list(mut self, list: &[usize]) -> Self {
+        self.list = list.to_vec();
+        self
+    }
+
+    pub fn sources(mut self, sources: &[usize]) -> Self {
+        self.sources = sources.to_vec();
+        self
+    }
+
+    pub fn work(mut self) -> Self {
+        self.work = 8;
+        self
+    }
+
+    /// One more operand, its entries lane by lane and column by column.
+    pub fn table(mut self, rows: usize, cols: usize, lanes: usize, data: &[f64]) -> Self {
+        self.operands.push(Operand {
+            rows,
+            cols,
+            lanes,
+            col: 0,
+            data: data.iter().map(|v| T::of_f64(*v)).collect(),
+        });
+        self
+    }
+
+    /// One more operand, a whole vector.
+    pub fn vector(self, lanes: usize, data: &[f64]) -> Self {
+        self.table(data.len() / lanes, 1, lanes, data)
+    }
+
+    // ---- What is written of it ----
+
     /// The bits of the memory that the call writes.
     pub fn written(&self) -> Vec<u64> {
         let places = self.call.written().iter();

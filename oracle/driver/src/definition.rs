@@ -77,7 +77,12 @@ fn no_column<T: Real>(case: &Case<T>) -> bool {
     if operands.any(|(o, kind)| *kind == Kind::Vector && o.col >= o.cols) {
         return true;
     }
-    let Some(table) = case.operands.iter().zip(kinds).find(|(_, k)| **k == Kind::Table) else {
+    let Some(table) = case
+        .operands
+        .iter()
+        .zip(kinds)
+        .find(|(_, k)| **k == Kind::Table)
+    else {
         return false;
     };
     let cols = table.0.cols;
@@ -111,18 +116,14 @@ fn wrong_numbers<T: Real>(case: &Case<T>) -> bool {
 }
 
 fn counts_differ<T: Real>(case: &Case<T>) -> bool {
-    let same_shape =
-        |x: &Operand<T>, y: &Operand<T>| x.rows == y.rows && x.cols == y.cols;
+    let same_shape = |x: &Operand<T>, y: &Operand<T>| x.rows == y.rows && x.cols == y.cols;
     match (case.call, &case.operands[..]) {
         (Call::BatchedAxpy, [a, x, y]) => a.rows != 1 || x.rows != y.rows,
         (Call::Gemv, [d, x, y]) => d.rows != y.rows || x.rows != d.cols,
         (Call::SquaredNorm, [x, y, atol]) => y.rows != x.rows || atol.rows != x.rows,
         (Call::ScaleAddAndAssign, [x, y, d]) => !same_shape(x, d) || !same_shape(y, d),
         (
-            Call::TableCopyFrom
-            | Call::TableAddAssign
-            | Call::TableSubAssign
-            | Call::TableSubInto,
+            Call::TableCopyFrom | Call::TableAddAssign | Call::TableSubAssign | Call::TableSubInto,
             [x, d],
         ) => !same_shape(x, d),
         (Call::FromDiagonal, [v, d]) => d.rows != v.rows || d.cols != v.rows,
@@ -325,13 +326,16 @@ fn carry_out<T: Real>(case: &mut Case<T>) {
             let row = old.counts[0];
             revise(y, |_, i, y| if i == row { factor(0) } else { y });
         }
-        Call::AssignAtIndices => revise(y, |_, i, y| {
-            if old.list.contains(&i) {
-                factor(0)
-            } else {
-                y
-            }
-        }),
+        Call::AssignAtIndices => revise(
+            y,
+            |_, i, y| {
+                if old.list.contains(&i) {
+                    factor(0)
+                } else {
+                    y
+                }
+            },
+        ),
         Call::CopyFromIndices => revise(y, |lane, i, y| {
             if old.list.contains(&i) {
                 entry(0, lane, n, i)

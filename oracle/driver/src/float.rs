@@ -2,7 +2,7 @@
 
 use diffsol_la::NalgebraScalar;
 
-pub trait Real: NalgebraScalar {
+pub trait Real: NalgebraScalar + crate::ours::Linked {
     /// Bits of one number.
     const WIDTH: usize;
     /// Bits of the significand that are stored.

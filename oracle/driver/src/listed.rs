@@ -40,8 +40,10 @@ fn absent<T: Real>(case: &Case<T>) -> bool {
     let shapeless =
         with_kinds().any(|(o, kind)| *kind == Kind::Vector && o.is_whole() && !o.fits());
     let made = match (case.call, &case.operands[..]) {
-        (Call::FromDiagonal, [v, d]) => d.rows != v.rows || d.cols != v.rows || d.lanes != v.lanes,
-        (Call::ResizeCols, [x, d]) => d.rows != x.rows || d.lanes != x.lanes,
+        (Call::FromDiagonal, [v, d]) => {
+            !d.fits() || d.rows != v.rows || d.cols != v.rows || d.lanes != v.lanes
+        }
+        (Call::ResizeCols, [x, d]) => !d.fits() || d.rows != x.rows || d.lanes != x.lanes,
         _ => false,
     };
     shapeless || made || case.call.works() && case.work < 8
@@ -109,11 +111,15 @@ fn forms<T: Real>(call: Call) -> Vec<Form<T>> {
         Call::Axpy => vec![axpy, axpy_owned],
         Call::BatchedAxpy => vec![|c| {
             let (a, x) = (owned(&c.operands[0]), owned(&c.operands[1]));
-            one(through(&c.operands[2], |y| y.batched_axpy(&a, &x, c.factors[0])))
+            one(through(&c.operands[2], |y| {
+                y.batched_axpy(&a, &x, c.factors[0])
+            }))
         }],
         Call::Gemv => vec![|c| {
             let (d, x) = (table(&c.operands[0]), owned(&c.operands[1]));
-            one(through(&c.operands[2], |y| d.gemv(c.factors[0], &x, c.factors[1], y)))
+            one(through(&c.operands[2], |y| {
+                d.gemv(c.factors[0], &x, c.factors[1], y)
+            }))
         }],
         Call::GemvCols => vec![|c| {
             let d = table(&c.operands[0]);
@@ -215,12 +221,22 @@ fn forms<T: Real>(call: Call) -> Vec<Form<T>> {
         }],
         Call::MulAssign => vec![
             mul_assign,
-            |c| one(through(&c.operands[0], |y| *y = y.clone() * Scale(c.factors[0]))),
+            |c| {
+                one(through(&c.operands[0], |y| {
+                    *y = y.clone() * Scale(c.factors[0])
+                }))
+            },
             |c| one(through(&c.operands[0], |y| *y = &*y * Scale(c.factors[0]))),
-            |c| one(through(&c.operands[0], |y| *y = y.as_view() * Scale(c.factors[0]))),
+            |c| {
+                one(through(&c.operands[0], |y| {
+                    *y = y.as_view() * Scale(c.factors[0])
+                }))
+            },
         ],
         Call::DivAssign => vec![|c| {
-            one(through(&c.operands[0], |y| *y = y.clone() / Scale(c.factors[0])))
+            one(through(&c.operands[0], |y| {
+                *y = y.clone() / Scale(c.factors[0])
+            }))
         }],
         Call::Fill => vec![|c| one(through(&c.operands[0], |y| y.fill(c.factors[0])))],
         Call::FillIndex => vec![fill_index],
@@ -231,7 +247,9 @@ fn forms<T: Real>(call: Call) -> Vec<Form<T>> {
         }],
         Call::CopyFromIndices => vec![|c| {
             let x = owned(&c.operands[0]);
-            one(through(&c.operands[1], |y| y.copy_from_indices(&x, &index(&c.list))))
+            one(through(&c.operands[1], |y| {
+                y.copy_from_indices(&x, &index(&c.list))
+            }))
         }],
         Call::SetColumn => vec![|c| {
             let (v, mut d) = (owned(&c.operands[0]), table(&c.operands[1]));
@@ -240,11 +258,15 @@ fn forms<T: Real>(call: Call) -> Vec<Form<T>> {
         }],
         Call::AddColumnToVector => vec![|c| {
             let d = table(&c.operands[0]);
-            one(through(&c.operands[1], |v| d.add_column_to_vector(c.counts[0], v)))
+            one(through(&c.operands[1], |v| {
+                d.add_column_to_vector(c.counts[0], v)
+            }))
         }],
         Call::AddColumnsToBatchedVector => vec![|c| {
             let d = table(&c.operands[0]);
-            one(through(&c.operands[1], |v| d.add_columns_to_batched_vector(v)))
+            one(through(&c.operands[1], |v| {
+                d.add_columns_to_batched_vector(v)
+            }))
         }],
         Call::ScaleAddAndAssign => vec![|c| {
             let [x, y, mut d] = [0, 1, 2].map(|k| table(&c.operands[k]));
@@ -292,9 +314,9 @@ fn forms<T: Real>(call: Call) -> Vec<Form<T>> {
             },
             |c| one(entries(&(table(&c.operands[1]) - &table(&c.operands[0])))),
         ],
-        Call::TableSubInto => vec![|c| {
-            one(entries(&(&table(&c.operands[0]) - table(&c.operands[1]))))
-        }],
+        Call::TableSubInto => {
+            vec![|c| one(entries(&(&table(&c.operands[0]) - table(&c.operands[1]))))]
+        }
         Call::TableMulAssign => vec![
             |c| one(entries(&(table(&c.operands[0]) * Scale(c.factors[0])))),
             |c| one(entries(&(&table(&c.operands[0]) * Scale(c.factors[0])))),

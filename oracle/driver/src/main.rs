@@ -1,51 +1,53 @@
-//! The judge: the listed Rust, the definitions and the library on the same cases. See README.md.
+//! The driver's commands; README.md says what each prints.
 
-mod case;
-mod definition;
-mod float;
-mod listed;
-mod make;
-mod random;
+use oracle::{blas, claims, dblat1, judge, list};
+use std::process::ExitCode;
 
-use case::{Answer, Case};
-use float::Real;
-use make::Size;
-use std::collections::BTreeMap;
+const USAGE: &str = "usage: oracle run [COUNT [SEED]] | list | dblat1 | differences | blas [COUNT]";
 
-fn main() {
+fn main() -> ExitCode {
+    // A panic is an answer here; it is not to be shown.
     std::panic::set_hook(Box::new(|_| {}));
-    let count: u64 = std::env::args().nth(1).map_or(1000, |s| s.parse().unwrap());
-    let mut t: BTreeMap<String, (u64, usize, String)> = BTreeMap::new();
-    for place in 0..count {
-        if place % 2 == 0 { one::<f64>(place, &mut t) } else { one::<f32>(place, &mut t) }
-    }
-    for (k, (n, _, line)) in &t {
-        println!("{n:8} {k}");
-        if !line.is_empty() { println!("      {line}"); }
-    }
-}
-fn one<T: Real>(place: u64, t: &mut BTreeMap<String, (u64, usize, String)>) {
-    let case: Case<T> = make::make(1, place, Size::Any);
-    let l = listed::answers(&case);
-    let d = definition::answer(&case);
-    if l.iter().any(|x| *x != l[0]) {
-        note(t, format!("FORMS {}", case.call.word()), &case, &l[0], &d, place, true);
-    }
-    let l = &l[0];
-    match (l, &d) {
-        (Answer::Absent, _) => note(t, "absent".into(), &case, l, &d, place, false),
-        (Answer::Refused(_), Answer::Refused(_)) => note(t, "refused".into(), &case, l, &d, place, false),
-        (Answer::Accepted(..), Answer::Accepted(..)) => if *l == d { note(t, "accepted".into(), &case, l, &d, place, false) } else { note(t, format!("DIFF {}", case.call.word()), &case, l, &d, place, true) },
-        (Answer::Accepted(..), Answer::Refused(n)) => note(t, format!("ACCEPTED {} {n}", case.call.word()), &case, l, &d, place, *n != 2),
-        (Answer::Refused(_), Answer::Accepted(..)) => note(t, format!("PANIC {}", case.call.word()), &case, l, &d, place, true),
-        _ => unreachable!(),
+    let words: Vec<String> = std::env::args().skip(1).collect();
+    let words: Vec<&str> = words.iter().map(String::as_str).collect();
+    match obey(&words) {
+        Some(true) => ExitCode::SUCCESS,
+        Some(false) => ExitCode::FAILURE,
+        None => {
+            eprintln!("{USAGE}");
+            ExitCode::FAILURE
+        }
     }
 }
-fn note<T: Real>(t: &mut BTreeMap<String, (u64, usize, String)>, key: String, case: &Case<T>, l: &Answer, d: &Answer, place: u64, show: bool) {
-    let e = t.entry(key).or_insert((0, usize::MAX, String::new()));
-    e.0 += 1;
-    if show {
-        let s = format!("{place}: {} | {} | {}", case.fields(), l.fields::<T>(), d.fields::<T>()).replace('\t', " ");
-        if s.len() < e.1 { e.1 = s.len(); e.2 = s; }
+
+/// Whether the command found all as it should be; nothing where it is none.
+fn obey(words: &[&str]) -> Option<bool> {
+    match words {
+        ["run"] => Some(judge::run(1, 400_000).report()),
+        ["run", count] => Some(judge::run(1, count.parse().ok()?).report()),
+        ["run", count, seed] => Some(judge::run(seed.parse().ok()?, count.parse().ok()?).report()),
+        ["list"] => Some(print(&list::lines())),
+        ["differences"] => Some(claims::report()),
+        ["dblat1"] => Some(print(&dblat1::lines())),
+        ["blas"] => against(100_000),
+        ["blas", count] => against(count.parse().ok()?),
+        _ => None,
     }
+}
+
+fn print(lines: &[String]) -> bool {
+    lines.iter().for_each(|line| println!("{line}"));
+    true
+}
+
+/// Reference BLAS, whose path REFERENCE_BLAS has, beside the definitions.
+fn against(count: u64) -> Option<bool> {
+    let path = std::env::var("REFERENCE_BLAS").unwrap_or_default();
+    let Some(library) = blas::Library::open(&path) else {
+        eprintln!("no BLAS at REFERENCE_BLAS={path}");
+        return Some(false);
+    };
+    let differ = blas::differing(&library, count);
+    println!("{count} cases of axpy, gemv and ger, {differ} differ from {path}");
+    Some(differ == 0)
 }

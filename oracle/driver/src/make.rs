@@ -197,7 +197,11 @@ impl Maker {
             Call::BatchedAxpy => {
                 case.factors = vec![self.factor()];
                 let s = self.source(n);
-                case.operands = vec![self.vector(1, n), self.vector(rows, s), self.vector(rows, n)];
+                case.operands = vec![
+                    self.vector(1, n),
+                    self.vector(rows, s),
+                    self.vector(rows, n),
+                ];
             }
             Call::Gemv => {
                 case.factors = vec![self.factor(), self.factor()];
@@ -217,13 +221,17 @@ impl Maker {
                 case.operands = vec![self.table(rows, cols, n)];
             }
             Call::UpdateBackwardDiff => {
-                let order = self.random.below(if self.extent == Extent::Few { 3 } else { 8 });
+                let order = self
+                    .random
+                    .below(if self.extent == Extent::Few { 3 } else { 8 });
                 case.counts = vec![order];
                 let (cols, s) = (self.cols(order + 3), self.source(n));
                 case.operands = vec![self.vector(rows, s), self.table(rows, cols, n)];
             }
             Call::UpdateBackwardDiffTranspose => {
-                let order = self.random.below(if self.extent == Extent::Few { 3 } else { 6 });
+                let order = self
+                    .random
+                    .below(if self.extent == Extent::Few { 3 } else { 6 });
                 case.counts = vec![order];
                 let (cols, s) = (self.cols(order + 3), self.source(n));
                 case.operands = vec![self.table(rows, cols, s), self.vector(rows, n)];
@@ -448,7 +456,9 @@ impl Maker {
             .next()
             .unwrap_or(case.operands[0].rows);
         let past = self.past(size);
-        let near = self.random.pick(&[size.saturating_sub(2), size.saturating_sub(1), 0]);
+        let near = self
+            .random
+            .pick(&[size.saturating_sub(2), size.saturating_sub(1), 0]);
         case.counts[place] = self.random.pick(&[past, near]);
         if count == 1 && self.random.chance(30) {
             case.counts.swap(0, 1);
@@ -481,7 +491,11 @@ impl Maker {
     }
 
     fn move_index<T: Real>(&mut self, case: &mut Case<T>) {
-        let sizes: Vec<_> = case.operands.iter().map(|o| o.rows * o.cols.max(1)).collect();
+        let sizes: Vec<_> = case
+            .operands
+            .iter()
+            .map(|o| o.rows * o.cols.max(1))
+            .collect();
         let rows: Vec<_> = case.operands.iter().map(|o| o.rows).collect();
         let ends = [sizes, rows].concat();
         let end = self.random.pick(&ends);
@@ -506,7 +520,9 @@ impl Maker {
         }
         let k = self.random.below(case.operands.len());
         let data = &mut case.operands[k].data;
-        let other = self.random.pick(&[data.len() + 1, data.len().saturating_sub(1), 0]);
+        let other = self
+            .random
+            .pick(&[data.len() + 1, data.len().saturating_sub(1), 0]);
         data.resize(other, T::one());
     }
 
