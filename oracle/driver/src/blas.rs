@@ -20,6 +20,10 @@ pub struct Library(*mut c_void);
 
 impl Library {
     pub fn open(path: &str) -> Option<Library> {
+        // An empty path would stand for the program itself.
+        if path.is_empty() {
+            return None;
+        }
         let path = CString::new(path).ok()?;
         let library = unsafe { dlopen(path.as_ptr(), RTLD_NOW) };
         (!library.is_null()).then_some(Library(library))
@@ -32,8 +36,9 @@ impl Library {
     }
 }
 
-type Axpy<T> = unsafe extern "C" fn(*const i32, *const T, *const T, *const i32, *mut T, *const i32);
-type Gemv<T> = unsafe extern "C" fn(
+pub type Axpy<T> =
+    unsafe extern "C" fn(*const i32, *const T, *const T, *const i32, *mut T, *const i32);
+pub type Gemv<T> = unsafe extern "C" fn(
     *const c_char,
     *const i32,
     *const i32,
@@ -46,7 +51,7 @@ type Gemv<T> = unsafe extern "C" fn(
     *mut T,
     *const i32,
 );
-type Ger<T> = unsafe extern "C" fn(
+pub type Ger<T> = unsafe extern "C" fn(
     *const i32,
     *const i32,
     *const T,
@@ -58,10 +63,17 @@ type Ger<T> = unsafe extern "C" fn(
     *const i32,
 );
 
-struct Calls<T> {
-    axpy: Axpy<T>,
-    gemv: Gemv<T>,
-    ger: Ger<T>,
+/// The three calls, as Fortran has them.
+pub struct Calls<T> {
+    pub axpy: Axpy<T>,
+    pub gemv: Gemv<T>,
+    pub ger: Ger<T>,
+}
+
+impl<T> Clone for Calls<T> {
+    fn clone(&self) -> Self {
+        Calls { ..*self }
+    }
 }
 
 impl<T> Calls<T> {
@@ -77,9 +89,15 @@ impl<T> Calls<T> {
     }
 }
 
+impl Calls<f64> {
+    pub fn wide(library: &Library) -> Calls<f64> {
+        Calls::of(library, [c"daxpy_", c"dgemv_", c"dger_"])
+    }
+}
+
 /// How many of `count` cases, a third of each call, differ in a bit.
 pub fn differing(library: &Library, count: u64) -> u64 {
-    let wide = Calls::<f64>::of(library, [c"daxpy_", c"dgemv_", c"dger_"]);
+    let wide = Calls::wide(library);
     let narrow = Calls::<f32>::of(library, [c"saxpy_", c"sgemv_", c"sger_"]);
     let mut random = Random::new(3);
     let mut differ = 0;

@@ -1,6 +1,6 @@
 //! Runs cases past all sides and counts where they agree.
 
-use crate::case::{Answer, Case};
+use crate::case::{Answer, Call, Case};
 use crate::float::Real;
 use crate::make::{make, Size};
 use crate::{definition, differences, listed, ours};
@@ -31,6 +31,8 @@ pub struct Tally {
     not_asked: u64,
     /// Answers of the library that were held against the definitions.
     ours: u64,
+    /// For each call how often it was accepted, and refused with each number, by definition.
+    verdicts: BTreeMap<Call, [u64; 12]>,
     known: BTreeMap<&'static str, Seen>,
     unknown: BTreeMap<String, Seen>,
     /// The listed Rust's answers in one number, to compare runs by.
@@ -58,6 +60,11 @@ impl Tally {
         let rust = listed::answers(case);
         let defined = definition::answer(case);
         self.cases += 1;
+        let number = match defined {
+            Answer::Refused(number) => number,
+            _ => 0,
+        };
+        self.verdicts.entry(case.call).or_default()[usize::from(number)] += 1;
         // A count near the largest word wraps in a release build of the Rust and panics in others.
         if case.counts.iter().all(|count| *count < 1 << 63) {
             self.digest(&rust[0]);
@@ -122,6 +129,11 @@ impl Tally {
 
     /// Prints the counts; true where nothing differs outside the list.
     pub fn report(&self) -> bool {
+        println!("cases by call: accepted, then refused with 1 to 11");
+        for (call, counts) in &self.verdicts {
+            let counts: String = counts.iter().map(|count| format!("{count:>7}")).collect();
+            println!("{:>30}{counts}", call.word());
+        }
         println!(
             "{} accepted alike, {} refused alike",
             self.accepted, self.refused
