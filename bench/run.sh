@@ -7,13 +7,14 @@
 # ROUNDS               rounds for each row (else 11)
 # BATCH_MICROSECONDS   how long a side runs in a round (else 2000)
 set -eu
+"$(dirname "$0")/../oracle/build.sh"
+archive=${KONSJIFT_LIB:+$(realpath "$KONSJIFT_LIB")}
 cd "$(dirname "$0")/../oracle"
 ./packages.sh libblas3 libopenblas0-serial
-if [ -z "${KONSJIFT_LIB:-}" ] && [ -f ../target/staticlib/libcapi.a ]; then
-    KONSJIFT_LIB=$(realpath ../target/staticlib/libcapi.a)
-    export KONSJIFT_LIB
+if [ -z "$archive" ] && [ -f ../target/staticlib/libcapi.a ]; then
+    archive=$(realpath ../target/staticlib/libcapi.a)
 fi
-./build.sh
+export KONSJIFT_LIB="$archive"
 cargo build --quiet --offline -j "${JOBS:-1}" --release -p bench
 REFERENCE_BLAS=$(dpkg -L libblas3 | grep '/libblas\.so\.3$' | head -n 1)
 OPENBLAS=$(dpkg -L libopenblas0-serial | grep '/libopenblas\.so\.0$' | head -n 1)

@@ -8,8 +8,11 @@
 #                 it is there); without it the driver has the Rust and the definitions only
 # PROFILE         release (else) or dev
 set -eu
+# What is named is seen from where the caller stands.
+source=${DIFFSOL_LA_SRC:+$(realpath "$DIFFSOL_LA_SRC")}
+archive=${KONSJIFT_LIB:+$(realpath "$KONSJIFT_LIB")}
 cd "$(dirname "$0")"
-source=${DIFFSOL_LA_SRC:-../../shared/docs/src}
+source=${source:-../../shared/docs/src}
 profile=${PROFILE:-release}
 
 ./packages.sh librust-num-traits-dev librust-thiserror-dev libblas3
@@ -36,10 +39,10 @@ done
     cmp "$source/$file" "listed/diffsol-la/$file"
 done
 
-if [ -z "${KONSJIFT_LIB:-}" ] && [ -f ../target/staticlib/libcapi.a ]; then
-    KONSJIFT_LIB=$(realpath ../target/staticlib/libcapi.a)
-    export KONSJIFT_LIB
+if [ -z "$archive" ] && [ -f ../target/staticlib/libcapi.a ]; then
+    archive=$(realpath ../target/staticlib/libcapi.a)
 fi
+export KONSJIFT_LIB="$archive"
 cargo build --quiet --offline -j "${JOBS:-1}" --profile "$profile" -p oracle
 [ $# -gt 0 ] || exit 0
 REFERENCE_BLAS=$(dpkg -L libblas3 | grep '/libblas\.so\.3$' | head -n 1)
