@@ -4,6 +4,7 @@
 #
 # KONSJIFT_LIB         the library's archive (else target/staticlib/libcapi.a of the repository);
 #                      without it only the other sides are timed, and nothing is written
+# CALL                 how the names of the calls to be timed begin (else all)
 # ROUNDS               rounds for each row (else 11)
 # BATCH_MICROSECONDS   how long a side runs in a round (else 2000)
 set -eu

@@ -89,7 +89,7 @@ pub const NAMES: [&str; 9] = [
     "update_backward_diff",
     "gather",
     "squared_norm",
-    "64 steps and back",
+    crate::script::NAME,
 ];
 
 /// All calls at this size.

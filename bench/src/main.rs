@@ -28,16 +28,21 @@ fn main() -> ExitCode {
         (Side::OpenBlas, open.as_ref()),
         (Side::Reference, reference.as_ref()),
     ];
+    // All calls, or those whose names begin with what is asked for.
+    let asked = variable("CALL");
     let mut taken = vec![];
     for rows in ROWS {
         for lanes in LANES {
-            for row in calls::rows(rows, lanes, &blas) {
+            let all = calls::rows(rows, lanes, &blas).into_iter();
+            for row in all.filter(|row| row.call.starts_with(&asked)) {
                 taken.push(take(row, rounds, batch));
             }
         }
     }
-    for rows in SCRIPT_ROWS {
-        taken.push(take(script::row(rows), rounds, batch));
+    if script::NAME.starts_with(&asked) {
+        for rows in SCRIPT_ROWS {
+            taken.push(take(script::row(rows), rounds, batch));
+        }
     }
     // Calls stand together, sizes in order.
     taken.sort_by_key(|taken| {
@@ -48,8 +53,8 @@ fn main() -> ExitCode {
     print!("{text}");
     match std::env::args().nth(1) {
         None => ExitCode::SUCCESS,
-        Some(_) if !cfg!(konsjift) => {
-            eprintln!("the library was not linked: nothing is written");
+        Some(_) if !cfg!(konsjift) || !asked.is_empty() => {
+            eprintln!("nothing is written of a run without the library, or of some calls only");
             ExitCode::FAILURE
         }
         Some(path) => match std::fs::write(&path, text) {

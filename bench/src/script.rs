@@ -13,6 +13,7 @@ use diffsol_la::{
 #[cfg(konsjift)]
 use crate::konsjift::{Column, ColumnMut, Real, Shape, Table, TableMut};
 
+pub const NAME: &str = "64 steps and back";
 const LANES: usize = 64;
 const COLS: usize = 8;
 const ORDER: usize = 3;
@@ -79,7 +80,7 @@ pub fn row(rows: usize) -> Row {
     sides.push((Side::Rust, side(Listed::new(rows), rows)));
     sides.push((Side::Plain, side(Memory::new(rows), rows)));
     Row {
-        call: "64 steps and back",
+        call: NAME,
         rows,
         lanes: LANES,
         sides,
