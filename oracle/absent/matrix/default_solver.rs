@@ -1,0 +1,5 @@
+//! A stub: which solver a matrix would use.
+
+pub trait DefaultSolver {
+    type LS;
+}
