@@ -1,0 +1,5 @@
+pub mod Passed
+pub mod RowLaws
+pub mod Entries
+pub mod LaneLoops
+pub mod Products
