@@ -5,6 +5,7 @@ use Prim.Native.Nat.{ℕ, _+_, _-_, _*_, _<_, _≤_}
 use native.Mathlib.Omega.{arith}
 use lib.Arith.{digits-lt}
 use lib.ListN.{length, getD, take, drop}
+use Rattle.std.proofs.shelf.Lists.{length-take-le, getD-take}
 use Rattle.scalar.specs.Ops.{Ops}
 use Rattle.scalar.specs.Sums.{at}
 use Rattle.scalar.proofs.Stored.{at-read, at-same}
@@ -28,6 +29,12 @@ module _ {S M : Type 0} (means : S → M) (o : Ops M) where
   at-part a k i xs fits below =
       let l : length (part a k xs) ≡ k = length-part xs a k fits in
       at-same means o (part a k xs) xs i (a + i) (omega arith) (omega arith) (λ d. part-get a k i xs d fits below)
+
+  -- an entry of the first n
+  pub at-front : (n i : ℕ) (xs : List S) → n ≤ length xs → i < n → at means o (take n xs) i ≡ at means o xs i
+  at-front n i xs fits below =
+      let l : length (take n xs) ≡ n = length-take-le n xs fits in
+      at-same means o (take n xs) xs i i (omega arith) (omega arith) (λ d. getD-take n xs i d below)
 
   -- a sum over parts is the sum over the memory that lent them
   pub summed-part : (a b : M) (ds xs ys : List S) (from with to n rows i : ℕ)

@@ -3,3 +3,4 @@ pub mod RowLaws
 pub mod Entries
 pub mod LaneLoops
 pub mod Products
+pub mod Updates

@@ -4,7 +4,6 @@ use mathlib.Core.List.{List}
 use Prim.Native.Nat.{ℕ, _+_, _-_, _*_, _<_, _≤_}
 use native.Mathlib.Omega.{arith}
 use lib.ListN.{length, take}
-use Rattle.std.proofs.shelf.Lists.{length-take-le, getD-take}
 use Rattle.scalar.specs.Ops.{Ops, Ring}
 use Rattle.scalar.specs.Sums.{at}
 use Rattle.scalar.proofs.Stored.{at-same}
@@ -19,6 +18,7 @@ use Rattle.shape.proofs.Cells.{changed-as}
 use Rattle.product.specs.Rows.{summed, linear}
 use Rattle.product.specs.Tests.{BandLawful}
 use Rattle.product.specs.Results.{rowOf, broadcast, rowMade, Applied}
+use Rattle.product.proofs.Entries.{at-front}
 use Rattle.product.proofs.RowLaws.{summed-cong, summed-linear}
 use Rattle.product.proofs.LaneLoops.{Starts, Found, read-from, column-from, column-at, column-more}
 
@@ -103,4 +103,4 @@ module _ {S M : Type 0} (means : S → M) (o : Ops M) (a b : M) (t : TableShape)
           let none : laneFor k 1 (y .of .lanes) ≡ 0 = omega arith in
           let here : (0 * 1 + 0) * n + l ≡ l = omega arith in
           ap (λ z. at means o (take n xs) ((z * 1 + 0) * n + l)) none ∙ ap (at means o (take n xs)) here
-          ∙ at-same means o (take n xs) xs l l (rw (length-take-le n xs enough) m) (omega arith) (λ d. getD-take n xs l d m)
+          ∙ at-front means o n l xs enough m

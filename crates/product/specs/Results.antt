@@ -38,7 +38,10 @@ module _ {S M : Type 0} (means : S → M) (o : Ops M) where
   abbrev pub Applied : ((ℕ → M) → ℕ → ℕ → M → M → (ℕ → M) → M → M) → M → TableShape → List S → ℕ → ℕ → (ℕ → ℕ → M) → M → Column → List S → List S → Type 0
   Applied made a t ts start n x b y old cur = Changed (y .of) (InColumn (y .col)) (meant means (rowMade made a t ts start n x b y old)) old cur
 
-  -- n columns of t gained the outer product of column p, by lanes and rows, with the coefficients x
+  -- what cell (i, j) of lane b of table t becomes, where n columns gain the outer product of p, by lanes and rows, with the coefficients x
+  abbrev pub cellGained : M → (ℕ → M) → (ℕ → ℕ → M) → TableShape → ℕ → ℕ → List S → ℕ → ℕ → ℕ → M
+  cellGained a x p t start n old b j i = spread o (rowOf t old b i) start n a x (p b i) j
+
+  -- those columns gained it, and nothing else moved
   abbrev pub RankOne : M → (ℕ → M) → (ℕ → ℕ → M) → TableShape → ℕ → ℕ → List S → List S → Type 0
-  RankOne a x p t start n old cur =
-      Changed t (InBand start n) (meant means (λ b j i. spread o (rowOf t old b i) start n a x (p b i) j)) old cur
+  RankOne a x p t start n old cur = Changed t (InBand start n) (meant means (cellGained a x p t start n old)) old cur

@@ -10,7 +10,7 @@ ghost use Rattle.product.specs.Tests.{gemvTests, GemvLawful, gemvColsTests, Ra
 ghost use Rattle.product.specs.Results.{broadcast, Applied};
 use crate::check::check_gemv;
 use crate::check::check_range;
-use crate::runs::sum_part;
+use crate::sums::sum_part;
 use scalar::Scalar;
 use scalar::Scale;
 use scalar::factor::ScaleClone;
