@@ -1,9 +1,9 @@
 -- A loop over the lanes: where the lane that is read starts, and one column a lane written. Assumes nothing.
-use mathlib.Core.Path.{_≡_, refl, sym, ap, subst, _∙_}
+use mathlib.Core.Path.{_≡_, ap, subst, _∙_}
 use mathlib.Core.List.{List}
 use Prim.Native.Nat.{ℕ, _+_, _-_, _*_, _<_, _≤_}
 use native.Mathlib.Omega.{arith}
-use Rattle.shape.specs.Shapes.{start, cell, bandOf, In, Fits, Lawful}
+use Rattle.shape.specs.Shapes.{start, bandOf, In, Fits, Lawful}
 use Rattle.shape.specs.Lanes.{laneFor}
 use Rattle.shape.specs.Changes.{Changed, RunChanged, InColumn, LanesBand}
 use Rattle.shape.specs.declared.operand.TableShape.{TableShape}

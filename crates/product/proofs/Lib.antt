@@ -1,6 +1,7 @@
 pub mod Passed
 pub mod RowLaws
 pub mod Entries
+pub mod ColumnSums
 pub mod LaneLoops
 pub mod Products
 pub mod Updates

@@ -16,7 +16,7 @@ use Rattle.shape.specs.declared.operand.Band.{Band}
 use Rattle.shape.proofs.Blocks.{band-fits, cell-fits, cell-from, lane-below}
 use Rattle.shape.proofs.Cells.{changed-as}
 use Rattle.product.specs.Rows.{summed, linear}
-use Rattle.product.specs.Tests.{BandLawful}
+use Rattle.product.specs.Tests.{ProductLawful}
 use Rattle.product.specs.Results.{rowOf, broadcast, rowMade, Applied}
 use Rattle.product.proofs.Entries.{at-front}
 use Rattle.product.proofs.RowLaws.{summed-cong, summed-linear}
@@ -33,7 +33,7 @@ pub record Inside (tl xl yl n rows from with to : ℕ) : Type 0 where
   pub source : with + n ≤ xl
   pub target : to + rows ≤ yl
 
-module _ (t : Band) (tl : ℕ) (x : Column) (xl : ℕ) (y : Column) (yl : ℕ) (law : BandLawful t tl x xl y yl) (lane from with to : ℕ) (l : lane < y .of .lanes) where
+module _ (t : Band) (tl : ℕ) (x : Column) (xl : ℕ) (y : Column) (yl : ℕ) (law : ProductLawful t tl x xl y yl) (lane from with to : ℕ) (l : lane < y .of .lanes) where
   -- p and q are the bands of x and y
   pub lane-placed : (p q : Band) (read-t read-x : ℕ) → p ≡ bandOf x → q ≡ bandOf y → Found lane (t .of .lanes) (y .of .lanes) read-t → Starts t read-t from
       → Found lane (x .of .lanes) (y .of .lanes) read-x → Starts p read-x with → Starts q lane to → Placed t x y lane from with to
@@ -55,7 +55,7 @@ module _ (t : Band) (tl : ℕ) (x : Column) (xl : ℕ) (y : Column) (yl : ℕ) (
       record { table = rw (law .rows) at table; source = omega (arith, law .count); target = omega arith }
 
 module _ {S M : Type 0} (means : S → M) (o : Ops M) (a b : M) (t : Band) (ts : List S) (x : Column) (xs : List S) (y : Column) (old : List S)
-    (law : BandLawful t (length ts) x (length xs) y (length old)) where
+    (law : ProductLawful t (length ts) x (length xs) y (length old)) where
   abbrev row : ℕ → ℕ → ℕ → M
   row = rowMade means o (summed o) a (t .of) ts (t .first) (t .count) (broadcast means o x xs (y .of .lanes)) b y old
 

@@ -6,21 +6,22 @@ use Prim.Native.Nat.{ℕ, _+_, _-_, _*_, _<_, _≤_}
 use native.Mathlib.Omega.{arith}
 use native.Mathlib.Nat.{add-mul}
 use lib.ListN.{length, getD, take}
+use borrow.Rule.Slice.PartMut.{putMid}
 use Rattle.std.proofs.shelf.Lists.{length-take-le}
 use Rattle.std.proofs.shelf.Tests.{cases-lt}
 use Rattle.scalar.specs.Ops.{Ops}
 use Rattle.scalar.specs.Sums.{at}
-use Rattle.scalar.proofs.Stored.{at-same}
+use Rattle.scalar.proofs.Stored.{at-read, at-same}
 use Rattle.shape.specs.Shapes.{start, cell}
 use Rattle.shape.specs.Lanes.{laneFor}
-use Rattle.shape.specs.Changes.{Changed, RunChanged, InBand, LanesBand, meant}
+use Rattle.shape.specs.Changes.{Changed, RunChanged, LanesBand, meant}
 use Rattle.shape.specs.declared.operand.TableShape.{TableShape}
 use Rattle.shape.specs.declared.operand.Column.{Column}
 use Rattle.shape.proofs.Blocks.{block-fits, block-lane, band-fits, cell-fits, cell-from, lane-below}
 use Rattle.shape.proofs.Cells.{changed-as, lanes-more}
-use Rattle.shape.proofs.Parts.{Filled, length-part}
+use Rattle.shape.proofs.Parts.{Filled, length-part, part-changed}
 use Rattle.product.specs.Tests.{RangeLawful}
-use Rattle.product.specs.Results.{inBlock, rowOf, broadcast, cellGained, RankOne}
+use Rattle.product.specs.Results.{inBlock, rowOf, broadcast, cellGained, GerCols}
 use Rattle.product.proofs.Entries.{part, at-part, at-front}
 use Rattle.product.proofs.RowLaws.{spread-in}
 
@@ -44,12 +45,13 @@ module _ {S M : Type 0} (means : S → M) (o : Ops M) (a : M) (xs ps old : List 
   gained l i = o .plus (at means o old (l * length ps + i)) (o .times (o .times a (at means o xs l)) (at means o ps i))
 
   -- one more column gains
-  pub gained-more : (cur cur′ : List S) (l : ℕ) (c : M) → length old ≡ length xs * length ps → length cur ≡ length old → l < length xs
-      → c ≡ o .times a (at means o xs l)
+  pub gained-more : (cur cur′ : List S) (l : ℕ) (x c : S) → length old ≡ length xs * length ps → length cur ≡ length old → l < length xs
+      → x ≡ getD xs l x → means c ≡ o .times a (means x)
       → Filled (inBlock means (length ps) gained) old cur (l * length ps)
-      → RunChanged (l * length ps) (length ps) (λ i v. means v ≡ o .plus (at means o cur (l * length ps + i)) (o .times c (at means o ps i))) cur cur′
+      → RunChanged (l * length ps) (length ps) (λ i v. means v ≡ o .plus (at means o cur (l * length ps + i)) (o .times (means c) (at means o ps i))) cur cur′
       → Filled (inBlock means (length ps) gained) old cur′ ((l + 1) * length ps)
-  gained-more cur cur′ l c size same below factor inv wrote =
+  gained-more cur cur′ l x c size same below read product inv wrote =
+      let factor : means c ≡ o .times a (at means o xs l) = product ∙ ap (o .times a) (sym (at-read means o xs l x below read)) in
       let next : l * length ps + length ps ≡ (l + 1) * length ps = sym (add-mul l 1 (length ps) ∙ omega arith) in
       let f = block-fits l (length xs) (length ps) below in
       rw (sym next)
@@ -61,15 +63,26 @@ module _ {S M : Type 0} (means : S → M) (o : Ops M) (a : M) (xs ps old : List 
       inv wrote)
 
 module _ {S M : Type 0} (means : S → M) (o : Ops M) (a : M) (xs ps ys : List S) (from rows to : ℕ) (source : from + rows ≤ length ps) (target : to + length xs * rows ≤ length ys) where
-  -- a gain in parts is the gain in the memory that lent them
-  pub gained-part : (k : ℕ) (v : S) → k < length xs * rows → inBlock means (length (part from rows ps)) (gained means o a xs (part from rows ps) (part to (length xs * rows) ys)) k v
-      → inBlock means rows (λ l i. o .plus (at means o ys (to + (l * rows + i))) (o .times (o .times a (at means o xs l)) (at means o ps (from + i)))) k v
-  gained-part k v h q l i b e =
+  -- a gain in parts, and the gain in the memories that lent them
+  abbrev part-gain : ℕ → S → Type 0
+  part-gain = inBlock means (length (part from rows ps)) (gained means o a xs (part from rows ps) (part to (length xs * rows) ys))
+
+  abbrev whole-gain : ℕ → S → Type 0
+  whole-gain = inBlock means rows (λ l i. o .plus (at means o ys (to + (l * rows + i))) (o .times (o .times a (at means o xs l)) (at means o ps (from + i))))
+
+  same-gain : (k : ℕ) (v : S) → k < length xs * rows → part-gain k v → whole-gain k v
+  same-gain k v h q l i b e =
       let long : length (part from rows ps) ≡ rows = length-part ps from rows source in
-      let whole = part to (length xs * rows) ys in
+      let all = part to (length xs * rows) ys in
       q l i (omega arith) (e ∙ ap (λ r. l * r + i) (sym long))
-      ∙ ap₂ (o .plus) (ap (λ r. at means o whole (l * r + i)) long ∙ at-part means o to (length xs * rows) (l * rows + i) ys target (omega arith))
+      ∙ ap₂ (o .plus) (ap (λ r. at means o all (l * r + i)) long ∙ at-part means o to (length xs * rows) (l * rows + i) ys target (omega arith))
       (ap (o .times (o .times a (at means o xs l))) (at-part means o from rows i ps source b))
+
+  pub part-gained : (cur : List S) → length cur ≡ length (part to (length xs * rows) ys) → ((k : ℕ) (d : S) → k < length (part to (length xs * rows) ys) → part-gain k (getD cur k d))
+      → RunChanged to (length xs * rows) whole-gain ys (putMid to ((to + length xs * rows) - to) ys cur)
+  part-gained cur same run =
+      let long = length-part ys to (length xs * rows) target in
+      part-changed to (length xs * rows) whole-gain ys cur target (same ∙ long) (λ k d h. same-gain k (getD cur k d) h (run k d (omega arith)))
 
 -- ---- the lanes: the run of p that a lane reads starts at `from`, its columns at `to`
 
@@ -87,7 +100,7 @@ runs-inside t tl first n p pl lane from to law l is-from is-to =
 module _ {S M : Type 0} (means : S → M) (o : Ops M) (a : M) (xs : List S) (p : Column) (ps : List S) (t : TableShape) (first : ℕ) (old : List S)
     (law : RangeLawful t (length old) first (length xs) (length xs) p (length ps)) where
   abbrev new : ℕ → ℕ → ℕ → M
-  new = cellGained means o a (λ l. at means o xs l) (broadcast means o p ps (t .lanes)) t first (length xs) old
+  new = cellGained means o a xs p ps t first (length xs) old
 
   pub spread-more : (lane from to : ℕ) (cur cur′ : List S) → lane < t .lanes → length cur ≡ length old
       → from ≡ start (p .of) (laneFor lane (p .of .lanes) (t .lanes)) (p .col) → to ≡ start t lane first
@@ -109,13 +122,15 @@ module _ {S M : Type 0} (means : S → M) (o : Ops M) (a : M) (xs : List S) (p :
       before wrote
 
 -- coefficients past the n that are needed are not read
-pub rank-one-front : {S M : Type 0} (means : S → M) (o : Ops M) (a : M) (xs : List S) (p : ℕ → ℕ → M) (t : TableShape) (first n : ℕ) (old cur : List S) → n ≤ length xs
-    → RankOne means o a (λ l. at means o (take n xs) l) p t first (length (take n xs)) old cur → RankOne means o a (λ l. at means o xs l) p t first n old cur
-rank-one-front means o a xs p t first n old cur enough done =
+pub gained-front : {S M : Type 0} (means : S → M) (o : Ops M) (a : M) (xs : List S) (p : Column) (ps : List S) (t : TableShape) (first n : ℕ) (old cur : List S) → n ≤ length xs
+    → GerCols means o a (take n xs) p ps t first (length (take n xs)) old cur → GerCols means o a xs p ps t first n old cur
+gained-front means o a xs p ps t first n old cur enough done =
     changed-as t _ _ _ _ old cur (λ b j i w h. h) (λ b j i w h. h)
     (λ b j i v w h q.
     let below : j - first < n = omega arith in
-    q ∙ spread-in o (rowOf means o t old b i) first n a (λ l. at means o (take n xs) l) (p b i) j (h .0) (h .1)
-    ∙ ap (λ z. o .plus (rowOf means o t old b i j) (o .times (o .times a z) (p b i))) (at-front means o n (j - first) xs enough below)
-    ∙ sym (spread-in o (rowOf means o t old b i) first n a (λ l. at means o xs l) (p b i) j (h .0) (h .1)))
-    (subst (λ (k : ℕ). RankOne means o a (λ l. at means o (take n xs) l) p t first k old cur) (length-take-le n xs enough) done)
+    let e = rowOf means o t old b i in
+    let z = broadcast means o p ps (t .lanes) b i in
+    q ∙ spread-in o e first n a (λ l. at means o (take n xs) l) z j (h .0) (h .1)
+    ∙ ap (λ x. o .plus (e j) (o .times (o .times a x) z)) (at-front means o n (j - first) xs enough below)
+    ∙ sym (spread-in o e first n a (λ l. at means o xs l) z j (h .0) (h .1)))
+    (subst (λ (k : ℕ). GerCols means o a (take n xs) p ps t first k old cur) (length-take-le n xs enough) done)

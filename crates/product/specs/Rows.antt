@@ -6,6 +6,10 @@ use Rattle.scalar.specs.Ops.{Ops}
 use Rattle.scalar.specs.Sums.{sum, sum-from}
 use Rattle.vector.specs.Rows.{blend}
 
+-- a row by columns, the first column and the count of a range, factors a and b, coefficients and an old entry make an entry
+abbrev pub RowSum : Type 0 → Type 0
+RowSum M = (ℕ → M) → ℕ → ℕ → M → M → (ℕ → M) → M → M
+
 module _ {M : Type 0} (o : Ops M) where
   -- n columns of the row d, from `start` on, times the coefficients x, onto b·y: the first gives (a·d)·x + b·y
   -- by axpy's rule for b, each later one adds (a·d)·x; with no columns b·y, or zero where b is zero

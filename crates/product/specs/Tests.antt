@@ -55,9 +55,9 @@ pub record RangeLawful (t : TableShape) (tl start n count : ℕ) (v : Column) (v
   pub enough : n ≤ count
   pub rows : t .rows ≡ v .of .rows
 
--- ---- both ways of giving coefficients at once: the rows of x are as many as the columns of the band t
+-- what gemv and gemv_cols have in common: as many rows of x as columns of the band t
 
-pub record BandLawful (t : Band) (tl : ℕ) (x : Column) (xl : ℕ) (y : Column) (yl : ℕ) : Type 0 where
+pub record ProductLawful (t : Band) (tl : ℕ) (x : Column) (xl : ℕ) (y : Column) (yl : ℕ) : Type 0 where
   pub table : Fits (t .of) tl
   pub within : t .first + t .count ≤ t .of .cols
   pub source : Lawful x xl

@@ -1,7 +1,7 @@
 //! The tests that the matrix-vector calls begin with. Each number is tested over all operands
 //! before the next.
 ghost use mathlib.Core.Path.{_≡_};
-ghost use Prim.Native.Nat.{ℕ, _-_};
+ghost use Prim.Native.Nat.{_-_};
 ghost use Rattle.shape.specs.Refusals.{answer, firstOf};
 ghost use Rattle.product.specs.Tests.{gemvTests, GemvLawful, rangeTests, RangeLawful};
 use shape::Column;
@@ -45,7 +45,7 @@ fn test_gemv(
 }
 
 /// The tests of table t times column x into column y, and what acceptance tells.
-pub fn check_gemv(
+pub(crate) fn check_gemv(
     t: TableShape,
     t_len: usize,
     x: Column,
@@ -101,7 +101,7 @@ fn test_range(
 /// The tests of columns `start` to `end` − 1 of table t with `count` coefficients and column v,
 /// and what acceptance tells. Which operand governs the lanes is the caller's: `apart` says that
 /// they do not broadcast.
-pub fn check_range(
+pub(crate) fn check_range(
     t: TableShape,
     t_len: usize,
     start: usize,

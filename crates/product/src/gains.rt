@@ -2,7 +2,6 @@
 ghost use mathlib.Core.Path.{_≡_};
 ghost use Prim.Native.Nat.{ℕ, _+_, _*_, _<_, _≤_};
 ghost use lib.ListN.{length, getD};
-ghost use Rattle.scalar.specs.Ops.{Ops};
 ghost use Rattle.scalar.specs.Sums.{at};
 ghost use Rattle.shape.specs.Changes.{RunChanged};
 ghost use Rattle.product.specs.Results.{Run, inBlock};

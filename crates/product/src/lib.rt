@@ -1,10 +1,10 @@
 //! Matrix-vector calls over any scalar: a table's columns summed into a column, and the outer
 //! product that columns gain. Sources broadcast, and a refusal writes nothing.
-pub mod check;
-pub mod gains;
+mod check;
+mod gains;
 pub mod multiply;
 pub mod outer;
-pub mod sums;
+mod sums;
 
 pub use multiply::gemv;
 pub use multiply::gemv_cols;

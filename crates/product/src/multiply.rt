@@ -1,19 +1,16 @@
 //! gemv and gemv_cols: columns of a table times coefficients, summed into a column.
 ghost use mathlib.Core.Path.{_≡_};
-ghost use Prim.Native.Nat.{ℕ, _-_};
+ghost use Prim.Native.Nat.{_-_};
 ghost use lib.ListN.{length};
-ghost use Rattle.scalar.specs.Ops.{Ops};
-ghost use Rattle.scalar.specs.Sums.{at};
 ghost use Rattle.shape.specs.Refusals.{answer, firstOf};
 ghost use Rattle.product.specs.Rows.{summed, linear};
-ghost use Rattle.product.specs.Tests.{gemvTests, GemvLawful, gemvColsTests, RangeLawful, BandLawful};
-ghost use Rattle.product.specs.Results.{broadcast, Applied};
+ghost use Rattle.product.specs.Tests.{gemvTests, GemvLawful, gemvColsTests, RangeLawful, ProductLawful};
+ghost use Rattle.product.specs.Results.{broadcast, Applied, Gemv, GemvCols};
 use crate::check::check_gemv;
 use crate::check::check_range;
 use crate::sums::sum_part;
 use scalar::Scalar;
 use scalar::Scale;
-use scalar::factor::ScaleClone;
 use shape::Band;
 use shape::Column;
 use shape::Refusal;
@@ -32,7 +29,7 @@ fn band_lanes<S: Scalar>(
     y: Column,
     ys: &mut [S],
 )
-    requires { ⌜ BandLawful t (length (now ts)) x (length (now xs)) y (length (now ys)) ⌝ }
+    requires { ⌜ ProductLawful t (length (now ts)) x (length (now xs)) y (length (now ys)) ⌝ }
     ensures { λ _. ⌜ Applied means ops (summed ops) (means (a .0)) (t .of) (now (ts .entry)) (t .first) (t .count) (broadcast means ops x (now (xs .entry)) (y .of .lanes)) (means (b .0)) y (now (ys .entry)) (now (ys .exit)) ⌝ }
 {
     let source = x.band();
@@ -56,8 +53,8 @@ fn gemv_lanes<S: Scalar>(
     ys: &mut [S],
 )
     requires { ⌜ GemvLawful t (length (now ts)) x (length (now xs)) y (length (now ys)) ⌝ }
-    ensures sums { λ _. ⌜ Applied means ops (summed ops) (means (a .0)) t (now (ts .entry)) 0 (t .cols) (broadcast means ops x (now (xs .entry)) (y .of .lanes)) (means (b .0)) y (now (ys .entry)) (now (ys .exit)) ⌝ }
-    ensures product { λ _. ⌜ (exact → Applied means ops (linear ops) (means (a .0)) t (now (ts .entry)) 0 (t .cols) (broadcast means ops x (now (xs .entry)) (y .of .lanes)) (means (b .0)) y (now (ys .entry)) (now (ys .exit))) ⌝ }
+    ensures sums { λ _. ⌜ Gemv means ops (summed ops) (means (a .0)) t (now (ts .entry)) x (now (xs .entry)) (means (b .0)) y (now (ys .entry)) (now (ys .exit)) ⌝ }
+    ensures product { λ _. ⌜ (exact → Gemv means ops (linear ops) (means (a .0)) t (now (ts .entry)) x (now (xs .entry)) (means (b .0)) y (now (ys .entry)) (now (ys .exit))) ⌝ }
 {
     band_lanes(a, t.band(), ts, x, xs, b, y, ys);
 }
@@ -75,8 +72,8 @@ fn gemv_cols_lanes<S: Scalar>(
     ys: &mut [S],
 )
     requires { ⌜ RangeLawful t (length (now ts)) start n (length (now x)) y (length (now ys)) ⌝ }
-    ensures sums { λ _. ⌜ Applied means ops (summed ops) (means (a .0)) t (now (ts .entry)) start n (λ _ l. at means ops (now (x .entry)) l) (means (b .0)) y (now (ys .entry)) (now (ys .exit)) ⌝ }
-    ensures product { λ _. ⌜ (exact → Applied means ops (linear ops) (means (a .0)) t (now (ts .entry)) start n (λ _ l. at means ops (now (x .entry)) l) (means (b .0)) y (now (ys .entry)) (now (ys .exit))) ⌝ }
+    ensures sums { λ _. ⌜ GemvCols means ops (summed ops) (means (a .0)) t (now (ts .entry)) start n (now (x .entry)) (means (b .0)) y (now (ys .entry)) (now (ys .exit)) ⌝ }
+    ensures product { λ _. ⌜ (exact → GemvCols means ops (linear ops) (means (a .0)) t (now (ts .entry)) start n (now (x .entry)) (means (b .0)) y (now (ys .entry)) (now (ys .exit))) ⌝ }
 {
     let band = Band {
         of: t,
@@ -99,8 +96,8 @@ pub fn gemv<S: Scalar>(
     ys: &mut [S],
 ) -> Result<(), Refusal>
     ensures verdict { λ r. ⌜ answer r ≡ firstOf (gemvTests t (length (now (ts .entry))) x (length (now (xs .entry))) y (length (now (ys .entry)))) ⌝ }
-    ensures accepted { λ r. ⌜ (answer r ≡ 0 → Applied means ops (summed ops) (means (a .0)) t (now (ts .entry)) 0 (t .cols) (broadcast means ops x (now (xs .entry)) (y .of .lanes)) (means (b .0)) y (now (ys .entry)) (now (ys .exit))) ⌝ }
-    ensures exact { λ r. ⌜ (exact → answer r ≡ 0 → Applied means ops (linear ops) (means (a .0)) t (now (ts .entry)) 0 (t .cols) (broadcast means ops x (now (xs .entry)) (y .of .lanes)) (means (b .0)) y (now (ys .entry)) (now (ys .exit))) ⌝ }
+    ensures accepted { λ r. ⌜ (answer r ≡ 0 → Gemv means ops (summed ops) (means (a .0)) t (now (ts .entry)) x (now (xs .entry)) (means (b .0)) y (now (ys .entry)) (now (ys .exit))) ⌝ }
+    ensures exact { λ r. ⌜ (exact → answer r ≡ 0 → Gemv means ops (linear ops) (means (a .0)) t (now (ts .entry)) x (now (xs .entry)) (means (b .0)) y (now (ys .entry)) (now (ys .exit))) ⌝ }
     ensures refused { λ r. ⌜ ((answer r ≡ 0 → ⊥) → now (ys .exit) ≡ now (ys .entry)) ⌝ }
 {
     check_gemv(t, ts.len(), x, xs.len(), y, ys.len())?;
@@ -122,8 +119,8 @@ pub fn gemv_cols<S: Scalar>(
     ys: &mut [S],
 ) -> Result<(), Refusal>
     ensures verdict { λ r. ⌜ answer r ≡ firstOf (gemvColsTests t (length (now (ts .entry))) start end (length (now (x .entry))) y (length (now (ys .entry)))) ⌝ }
-    ensures accepted { λ r. ⌜ (answer r ≡ 0 → Applied means ops (summed ops) (means (a .0)) t (now (ts .entry)) start (end - start) (λ _ l. at means ops (now (x .entry)) l) (means (b .0)) y (now (ys .entry)) (now (ys .exit))) ⌝ }
-    ensures exact { λ r. ⌜ (exact → answer r ≡ 0 → Applied means ops (linear ops) (means (a .0)) t (now (ts .entry)) start (end - start) (λ _ l. at means ops (now (x .entry)) l) (means (b .0)) y (now (ys .entry)) (now (ys .exit))) ⌝ }
+    ensures accepted { λ r. ⌜ (answer r ≡ 0 → GemvCols means ops (summed ops) (means (a .0)) t (now (ts .entry)) start (end - start) (now (x .entry)) (means (b .0)) y (now (ys .entry)) (now (ys .exit))) ⌝ }
+    ensures exact { λ r. ⌜ (exact → answer r ≡ 0 → GemvCols means ops (linear ops) (means (a .0)) t (now (ts .entry)) start (end - start) (now (x .entry)) (means (b .0)) y (now (ys .entry)) (now (ys .exit))) ⌝ }
     ensures refused { λ r. ⌜ ((answer r ≡ 0 → ⊥) → now (ys .exit) ≡ now (ys .entry)) ⌝ }
 {
     let apart = no_broadcast(t.lanes, y.of.lanes);

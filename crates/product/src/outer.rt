@@ -1,17 +1,14 @@
 //! ger_cols: columns of a table gain the outer product of a column with coefficients.
 ghost use mathlib.Core.Path.{_≡_};
-ghost use Prim.Native.Nat.{ℕ, _-_};
+ghost use Prim.Native.Nat.{_-_};
 ghost use lib.ListN.{length};
-ghost use Rattle.scalar.specs.Ops.{Ops};
-ghost use Rattle.scalar.specs.Sums.{at};
 ghost use Rattle.shape.specs.Refusals.{answer, firstOf};
 ghost use Rattle.product.specs.Tests.{gerColsTests, RangeLawful};
-ghost use Rattle.product.specs.Results.{broadcast, RankOne};
+ghost use Rattle.product.specs.Results.{GerCols};
 use crate::check::check_range;
 use crate::gains::gain_part;
 use scalar::Scalar;
 use scalar::Scale;
-use scalar::factor::ScaleClone;
 use shape::Band;
 use shape::Column;
 use shape::Refusal;
@@ -30,7 +27,7 @@ fn spread_lanes<S: Scalar>(
     start: usize,
 )
     requires { ⌜ RangeLawful t (length (now ts)) start (length (now x)) (length (now x)) p (length (now ps)) ⌝ }
-    ensures { λ _. ⌜ RankOne means ops (means (a .0)) (λ l. at means ops (now (x .entry)) l) (broadcast means ops p (now (ps .entry)) (t .lanes)) t start (length (now (x .entry))) (now (ts .entry)) (now (ts .exit)) ⌝ }
+    ensures { λ _. ⌜ GerCols means ops (means (a .0)) (now (x .entry)) p (now (ps .entry)) t start (length (now (x .entry))) (now (ts .entry)) (now (ts .exit)) ⌝ }
 {
     let source = p.band();
     let target = Band {
@@ -55,7 +52,7 @@ fn ger_cols_lanes<S: Scalar>(
     n: usize,
 )
     requires { ⌜ RangeLawful t (length (now ts)) start n (length (now x)) p (length (now ps)) ⌝ }
-    ensures { λ _. ⌜ RankOne means ops (means (a .0)) (λ l. at means ops (now (x .entry)) l) (broadcast means ops p (now (ps .entry)) (t .lanes)) t start n (now (ts .entry)) (now (ts .exit)) ⌝ }
+    ensures { λ _. ⌜ GerCols means ops (means (a .0)) (now (x .entry)) p (now (ps .entry)) t start n (now (ts .entry)) (now (ts .exit)) ⌝ }
 {
     spread_lanes(a, &x[..n], p, ps, t, ts, start);
 }
@@ -73,7 +70,7 @@ pub fn ger_cols<S: Scalar>(
     end: usize,
 ) -> Result<(), Refusal>
     ensures verdict { λ r. ⌜ answer r ≡ firstOf (gerColsTests t (length (now (ts .entry))) start end (length (now (x .entry))) p (length (now (ps .entry)))) ⌝ }
-    ensures accepted { λ r. ⌜ (answer r ≡ 0 → RankOne means ops (means (a .0)) (λ l. at means ops (now (x .entry)) l) (broadcast means ops p (now (ps .entry)) (t .lanes)) t start (end - start) (now (ts .entry)) (now (ts .exit))) ⌝ }
+    ensures accepted { λ r. ⌜ (answer r ≡ 0 → GerCols means ops (means (a .0)) (now (x .entry)) p (now (ps .entry)) t start (end - start) (now (ts .entry)) (now (ts .exit))) ⌝ }
     ensures refused { λ r. ⌜ ((answer r ≡ 0 → ⊥) → now (ts .exit) ≡ now (ts .entry)) ⌝ }
 {
     let apart = no_broadcast(p.of.lanes, t.lanes);

@@ -1,15 +1,14 @@
-//! The inner loops, on runs of memory: nothing here knows of shapes or lanes. The work of each
-//! loop depends on the row, so what does not is done before it.
+//! The inner loops of gemv and gemv_cols, on runs of memory: nothing here knows of shapes or
+//! lanes. What does not depend on the row, as the test of b, is done before a loop.
 ghost use mathlib.Core.Path.{_≡_};
 ghost use mathlib.Core.Bool.{cond};
-ghost use Prim.Native.Nat.{ℕ, suc, _+_, _-_, _*_, _<_, _≤_};
+ghost use Prim.Native.Nat.{suc, _+_, _-_, _*_, _<_, _≤_};
 ghost use lib.ListN.{length};
-ghost use Rattle.scalar.specs.Ops.{Ops};
 ghost use Rattle.scalar.specs.Sums.{at, sum-from};
 ghost use Rattle.shape.specs.Changes.{RunChanged};
 ghost use Rattle.vector.specs.Rows.{blend};
 ghost use Rattle.product.specs.Rows.{summed};
-ghost use Rattle.product.specs.Results.{Run, inBlock};
+ghost use Rattle.product.specs.Results.{Run, runRow};
 use scalar::Scalar;
 use scalar::Scale;
 
@@ -97,7 +96,7 @@ fn add_column<S: Scalar>(a: Scale<S>, d: &[S], from: usize, x: S, y: &mut [S])
 fn later_columns<S: Scalar>(a: Scale<S>, d: &[S], x: &[S], y: &mut [S])
     requires some { ⌜ 0 < length (now x) ⌝ }
     requires room { ⌜ length (now x) * length (now y) ≤ length (now d) ⌝ }
-    ensures { λ _. ⌜ Run means (λ i. sum-from ops (at means ops (now (y .entry)) i) (λ l. ops .times (ops .times (means (a .0)) (at means ops (now (d .entry)) (suc l * length (now (y .entry)) + i))) (at means ops (now (x .entry)) (suc l))) (length (now (x .entry)) - 1)) (now (y .exit)) ⌝ }
+    ensures { λ _. ⌜ Run means (λ i. sum-from ops (at means ops (now (y .entry)) i) (λ l. ops .times (ops .times (means (a .0)) (runRow means ops (now (d .entry)) (length (now (y .entry))) i (suc l))) (at means ops (now (x .entry)) (suc l))) (length (now (x .entry)) - 1)) (now (y .exit)) ⌝ }
 {
     for l in 1..x.len() {
         add_column(a, d, l * y.len(), x[l], y);
@@ -105,9 +104,9 @@ fn later_columns<S: Scalar>(a: Scale<S>, d: &[S], x: &[S], y: &mut [S])
 }
 
 /// y becomes the sum of d's columns, each as long as y, times a and the coefficients x, onto b·y.
-pub(crate) fn sum_columns<S: Scalar>(a: Scale<S>, d: &[S], x: &[S], b: Scale<S>, y: &mut [S])
+fn sum_columns<S: Scalar>(a: Scale<S>, d: &[S], x: &[S], b: Scale<S>, y: &mut [S])
     requires { ⌜ length (now x) * length (now y) ≤ length (now d) ⌝ }
-    ensures { λ _. ⌜ Run means (λ i. summed ops (λ l. at means ops (now (d .entry)) (l * length (now (y .entry)) + i)) 0 (length (now (x .entry))) (means (a .0)) (means (b .0)) (λ l. at means ops (now (x .entry)) l) (at means ops (now (y .entry)) i)) (now (y .exit)) ⌝ }
+    ensures { λ _. ⌜ Run means (λ i. summed ops (runRow means ops (now (d .entry)) (length (now (y .entry))) i) 0 (length (now (x .entry))) (means (a .0)) (means (b .0)) (λ l. at means ops (now (x .entry)) l) (at means ops (now (y .entry)) i)) (now (y .exit)) ⌝ }
 {
     if x.len() == 0 {
         no_columns(b, y);

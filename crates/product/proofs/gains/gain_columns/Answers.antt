@@ -1,10 +1,9 @@
-use mathlib.Core.Path.{_≡_, refl, sym, ap, _∙_}
-use Prim.Native.Nat.{_+_, _*_, _≤_}
+use mathlib.Core.Path.{_≡_, refl, ap}
+use Prim.Native.Nat.{_*_, _≤_}
 use native.Mathlib.Omega.{arith}
 use borrow.Author.Needs.{needs}
 use mir.Facts.{fits-le}
 use lib.ListN.{length}
-use Rattle.scalar.proofs.Stored.{at-read}
 use Rattle.shape.proofs.Blocks.{block-fits}
 use Rattle.product.proofs.Updates.{gained-more}
 use Rattle.product.proofs.gains.gain_columns.Needs as need
@@ -26,9 +25,8 @@ loop-l-holds g c = record { done = λ k d h. absurd (omega arith); rest = λ k d
 pub loop-l-again : need.loop-l-again
 loop-l-again g c =
     let s = g .S·Scalar in
-    let x = at-read (s .means) (s .ops) (c .args .x .now) (c .loop-l .l) (c .index-x-l .result) (c .loop-l-test .taken) (c .index-x-l .is) in
-    gained-more (s .means) (s .ops) (s .means (c .args .a .0)) (c .args .x .now) (c .args .p .now) (c .args .y .now) (c .loop-l .y) (c .gain-column .last .y) (c .loop-l .l) (s .means (c .mul .result))
-    (c .pre) (c .loop-l .kept .y) (c .loop-l-test .taken) (c .mul .ensures ∙ ap (s .ops .times (s .means (c .args .a .0))) (sym x)) (c .loop-l .inv) (c .gain-column .ensures)
+    gained-more (s .means) (s .ops) (s .means (c .args .a .0)) (c .args .x .now) (c .args .p .now) (c .args .y .now) (c .loop-l .y) (c .gain-column .last .y) (c .loop-l .l) (c .index-x-l .result) (c .mul .result)
+    (c .pre) (c .loop-l .kept .y) (c .loop-l-test .taken) (c .index-x-l .is) (c .mul .ensures) (c .loop-l .inv) (c .gain-column .ensures)
 
 pub returns : need.returns
 returns g c = λ k d h.

@@ -1,4 +1,3 @@
-use mathlib.Core.Path.{_≡_, sym}
 use lib.ListN.{length}
 use Rattle.shape.proofs.Cells.{lanes-none}
 use Rattle.product.proofs.LaneLoops.{column-all}
