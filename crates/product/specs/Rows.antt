@@ -13,12 +13,12 @@ RowSum M = (ℕ → M) → ℕ → ℕ → M → M → (ℕ → M) → M → M
 module _ {M : Type 0} (o : Ops M) where
   -- n columns of the row d, from `start` on, times the coefficients x, onto b·y: the first gives (a·d)·x + b·y
   -- by axpy's rule for b, each later one adds (a·d)·x; with no columns b·y, or zero where b is zero
-  abbrev pub summed : (ℕ → M) → ℕ → ℕ → M → M → (ℕ → M) → M → M
+  abbrev pub summed : RowSum M
   summed d start zero a b x y = cond (o .isZero b) (o .zero) (o .times b y)
   summed d start (suc n) a b x y = sum-from o (blend o (o .times a (d start)) (x 0) b y) (λ l. o .times (o .times a (d (start + suc l))) (x (suc l))) n
 
   -- BLAS's definition of gemv: a·(Σ d·x) + b·y
-  abbrev pub linear : (ℕ → M) → ℕ → ℕ → M → M → (ℕ → M) → M → M
+  abbrev pub linear : RowSum M
   linear d start n a b x y = o .plus (o .times a (sum o (λ l. o .times (d (start + l)) (x l)) n)) (o .times b y)
 
   -- BLAS's ger: of the row e, each of the n columns from `start` on gains (a·x)·p, with its own coefficient x
