@@ -54,12 +54,12 @@ fn gemv_lanes<S: Scalar>(
 )
     requires { ⌜ GemvLawful t (length (now ts)) x (length (now xs)) y (length (now ys)) ⌝ }
     ensures sums { λ _. ⌜ Gemv means ops (summed ops) (means (a .0)) t (now (ts .entry)) x (now (xs .entry)) (means (b .0)) y (now (ys .entry)) (now (ys .exit)) ⌝ }
-    ensures product { λ _. ⌜ (exact → Gemv means ops (linear ops) (means (a .0)) t (now (ts .entry)) x (now (xs .entry)) (means (b .0)) y (now (ys .entry)) (now (ys .exit))) ⌝ }
+    ensures exact { λ _. ⌜ (exact → Gemv means ops (linear ops) (means (a .0)) t (now (ts .entry)) x (now (xs .entry)) (means (b .0)) y (now (ys .entry)) (now (ys .exit))) ⌝ }
 {
     band_lanes(a, t.band(), ts, x, xs, b, y, ys);
 }
 
-/// The coefficients are a vector of one lane, which every lane reads.
+/// The coefficients are a vector of one lane, which every lane of y reads.
 fn gemv_cols_lanes<S: Scalar>(
     a: Scale<S>,
     t: TableShape,
@@ -73,7 +73,7 @@ fn gemv_cols_lanes<S: Scalar>(
 )
     requires { ⌜ RangeLawful t (length (now ts)) start n (length (now x)) y (length (now ys)) ⌝ }
     ensures sums { λ _. ⌜ GemvCols means ops (summed ops) (means (a .0)) t (now (ts .entry)) start n (now (x .entry)) (means (b .0)) y (now (ys .entry)) (now (ys .exit)) ⌝ }
-    ensures product { λ _. ⌜ (exact → GemvCols means ops (linear ops) (means (a .0)) t (now (ts .entry)) start n (now (x .entry)) (means (b .0)) y (now (ys .entry)) (now (ys .exit))) ⌝ }
+    ensures exact { λ _. ⌜ (exact → GemvCols means ops (linear ops) (means (a .0)) t (now (ts .entry)) start n (now (x .entry)) (means (b .0)) y (now (ys .entry)) (now (ys .exit))) ⌝ }
 {
     let band = Band {
         of: t,
@@ -83,8 +83,14 @@ fn gemv_cols_lanes<S: Scalar>(
     band_lanes(a, band, ts, Column::vector(n, 1), &x[..n], b, y, ys);
 }
 
-/// y becomes a·t·x + b·y: column 0 of t gives (a·t)·x + b·y, or (a·t)·x alone where b is zero, and
-/// each later column adds (a·t)·x. With no columns y becomes b·y, or zero where b is zero.
+/// y becomes a·t·x + b·y in every lane of y; the lanes of t and of x broadcast into them.
+///
+/// Column 0 of t gives (a·t)·x + b·y, or (a·t)·x alone where b is zero, and each later column adds
+/// (a·t)·x, in their order. With no columns y becomes b·y, or zero where b is zero. For an exact
+/// scalar all this is a·(Σ t·x) + b·y.
+///
+/// Refuses 1, 2 and 3 for any operand, 4 for the column of x or y, 7 where t has not y's rows or
+/// x not a row for each column of t, and 8 where the lanes of t or x do not go into y's.
 pub fn gemv<S: Scalar>(
     a: Scale<S>,
     t: TableShape,
@@ -105,8 +111,12 @@ pub fn gemv<S: Scalar>(
     Ok(())
 }
 
-/// The same on columns `start` to `end` − 1 of t, at most eight, with coefficients that all lanes
-/// share; those past `end` − `start` are not read.
+/// gemv on columns `start` to `end` − 1 of t, at most eight, with coefficients that all lanes
+/// share. Coefficients past `end` − `start` are not read.
+///
+/// Refuses 1, 2 and 3 for t or y, 4 for the range or y's column, 5 for more than eight columns, 6
+/// for want of coefficients, 7 where the rows differ and 8 where t's lanes do not go into y's. An
+/// empty range is tested like any other.
 pub fn gemv_cols<S: Scalar>(
     a: Scale<S>,
     t: TableShape,

@@ -57,8 +57,11 @@ fn ger_cols_lanes<S: Scalar>(
     spread_lanes(a, &x[..n], p, ps, t, ts, start);
 }
 
-/// Cell (i, start + l) of t gains (a·x_l)·p_i, for columns `start` to `end` − 1, at most eight.
-/// All lanes share the coefficients; those past `end` − `start` are not read.
+/// Cell (i, start + l) of t gains (a·x_l)·p_i: BLAS's ger on columns `start` to `end` − 1, at most
+/// eight, in every lane of t. The lanes of p broadcast into them, and all share the coefficients;
+/// those past `end` − `start` are not read.
+///
+/// Refuses what `gemv_cols` refuses, with p for the column, and 8 where p's lanes do not go into t's.
 pub fn ger_cols<S: Scalar>(
     a: Scale<S>,
     x: &[S],

@@ -108,7 +108,7 @@ fn sum_columns<S: Scalar>(a: Scale<S>, d: &[S], x: &[S], b: Scale<S>, y: &mut [S
     requires { ⌜ length (now x) * length (now y) ≤ length (now d) ⌝ }
     ensures { λ _. ⌜ Run means (λ i. summed ops (runRow means ops (now (d .entry)) (length (now (y .entry))) i) 0 (length (now (x .entry))) (means (a .0)) (means (b .0)) (λ l. at means ops (now (x .entry)) l) (at means ops (now (y .entry)) i)) (now (y .exit)) ⌝ }
 {
-    if x.len() == 0 {
+    if x.is_empty() {
         no_columns(b, y);
     } else {
         first_column(a, &d[..y.len()], x[0], b, y);

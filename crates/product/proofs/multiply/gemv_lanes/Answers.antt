@@ -14,4 +14,4 @@ returns g c =
     let x = broadcast (s .means) (s .ops) (c .args .x) (c .args .xs .now) (c .args .y .of .lanes) in
     let done = subst (λ (q : Band). Applied (s .means) (s .ops) (summed (s .ops)) (s .means (c .args .a .0)) (q .of) (c .args .ts .now) (q .first) (q .count) x (s .means (c .args .b .0)) (c .args .y) (c .args .ys .now) (c .band-lanes .last .ys))
     (c .band .ensures) (c .band-lanes .ensures) in
-    record { sums = done; product = λ e. let r : Ring (s .ops) = search needs in applied-linear (s .means) (s .ops) _ _ _ _ _ _ _ _ _ x r done }
+    record { sums = done; exact = λ e. let r : Ring (s .ops) = search needs in applied-linear (s .means) (s .ops) _ _ _ _ _ _ _ _ _ x r done }
