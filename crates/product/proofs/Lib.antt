@@ -2,6 +2,5 @@ pub mod Passed
 pub mod RowLaws
 pub mod Entries
 pub mod ColumnSums
-pub mod LaneLoops
 pub mod Products
 pub mod Updates

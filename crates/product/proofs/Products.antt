@@ -7,20 +7,20 @@ use lib.ListN.{length, take}
 use Rattle.scalar.specs.Ops.{Ops, Ring}
 use Rattle.scalar.specs.Sums.{at}
 use Rattle.scalar.proofs.Stored.{at-same}
-use Rattle.shape.specs.Shapes.{start, cell, whole, bandOf}
+use Rattle.shape.specs.Shapes.{start, cell, whole, Fits, Lawful}
 use Rattle.shape.specs.Lanes.{laneFor}
 use Rattle.shape.specs.Changes.{Changed, RunChanged, LanesBand, meant}
 use Rattle.shape.specs.declared.operand.TableShape.{TableShape}
 use Rattle.shape.specs.declared.operand.Column.{Column}
 use Rattle.shape.specs.declared.operand.Band.{Band}
 use Rattle.shape.proofs.Blocks.{band-fits, cell-fits, cell-from, lane-below}
-use Rattle.shape.proofs.Cells.{changed-as}
+use Rattle.shape.proofs.Cells.{changed-as, column-more}
+use Rattle.shape.proofs.Broadcast.{reads-from}
 use Rattle.product.specs.Rows.{summed, linear}
 use Rattle.product.specs.Tests.{ProductLawful}
 use Rattle.product.specs.Results.{rowOf, broadcast, rowMade, Applied}
 use Rattle.product.proofs.Entries.{at-front}
 use Rattle.product.proofs.RowLaws.{summed-cong, summed-linear}
-use Rattle.product.proofs.LaneLoops.{Starts, Found, read-from, column-from, column-at, column-more}
 
 -- the lane's runs start where the lanes that are read do
 pub record Placed (t : Band) (x y : Column) (lane from with to : ℕ) : Type 0 where
@@ -34,15 +34,22 @@ pub record Inside (tl xl yl n rows from with to : ℕ) : Type 0 where
   pub target : to + rows ≤ yl
 
 module _ (t : Band) (tl : ℕ) (x : Column) (xl : ℕ) (y : Column) (yl : ℕ) (law : ProductLawful t tl x xl y yl) (lane from with to : ℕ) (l : lane < y .of .lanes) where
-  -- p and q are the bands of x and y
-  pub lane-placed : (p q : Band) (read-t read-x : ℕ) → p ≡ bandOf x → q ≡ bandOf y → Found lane (t .of .lanes) (y .of .lanes) read-t → Starts t read-t from
-      → Found lane (x .of .lanes) (y .of .lanes) read-x → Starts p read-x with → Starts q lane to → Placed t x y lane from with to
-  lane-placed p q read-t read-x is-x is-y found-t starts-t found-x starts-x starts-y =
+  -- after the calls of `lane_for` and `start`
+  pub lane-placed : (read-t read-x : ℕ)
+      → (lane < y .of .lanes → y .of .lanes ≤ 4096 → t .of .lanes ≤ 4096 → read-t ≡ laneFor lane (t .of .lanes) (y .of .lanes))
+      → ((len : ℕ) → Fits (t .of) len → t .first ≤ t .of .cols → read-t < t .of .lanes → from ≡ start (t .of) read-t (t .first))
+      → (lane < y .of .lanes → y .of .lanes ≤ 4096 → x .of .lanes ≤ 4096 → read-x ≡ laneFor lane (x .of .lanes) (y .of .lanes))
+      → ((len : ℕ) → Lawful x len → read-x < x .of .lanes → with ≡ start (x .of) read-x (x .col))
+      → ((len : ℕ) → Lawful y len → lane < y .of .lanes → to ≡ start (y .of) lane (y .col))
+      → Placed t x y lane from with to
+  lane-placed read-t read-x found-t starts-t found-x starts-x starts-y =
       let few = law .target .fits .few-lanes in
+      let is = found-t l few (law .table .few-lanes) in
+      let below : read-t < t .of .lanes = rw is (lane-below lane (t .of .lanes) (y .of .lanes) (law .table .some) l) in
       record {
-        table = read-from t tl lane (y .of .lanes) read-t from (law .table) (omega (arith, law .within)) l few found-t starts-t;
-        source = column-from x p xl lane (y .of .lanes) read-x with is-x (law .source) l few found-x starts-x;
-        target = column-at y q yl lane to is-y (law .target) l starts-y;
+        table = starts-t tl (law .table) (omega (arith, law .within)) below ∙ ap (λ b. start (t .of) b (t .first)) is;
+        source = reads-from x xl (y .of .lanes) lane read-x with (law .source) l few found-x starts-x;
+        target = starts-y yl (law .target) l;
       }
 
   pub runs-inside : Placed t x y lane from with to → Inside tl xl yl (t .count) (y .of .rows) from with to

@@ -8,15 +8,12 @@ use lib.Dec.{leb, ltb}
 use Rattle.std.proofs.shelf.Tests.{cond-true, lt-ltb, le-leb, and-from}
 use Rattle.scalar.specs.Ops.{Ops, Ring}
 use Rattle.scalar.specs.Sums.{sum, sum-from}
+use Rattle.scalar.proofs.SumLaws.{sum-same}
 use Rattle.scalar.proofs.RingLaws.{zero-plus, times-zero}
 use Rattle.vector.specs.Rows.{blend}
 use Rattle.product.specs.Rows.{summed, linear, spread}
 
 module _ {M : Type 0} (o : Ops M) where
-  pub from-cong : (a b : M) (f g : ℕ → M) (n : ℕ) → a ≡ b → ((k : ℕ) → k < n → f k ≡ g k) → sum-from o a f n ≡ sum-from o b g n
-  from-cong a b f g zero e h = e
-  from-cong a b f g (suc n) e h = ap₂ (o .plus) (from-cong a b f g n e (λ k l. h k (omega arith))) (h n (omega arith))
-
   -- one more term, where the loop counts from 1
   pub from-more : (a : M) (f : ℕ → M) (l : ℕ) → 1 ≤ l → sum-from o a f (l + 1 - 1) ≡ o .plus (sum-from o a f (l - 1)) (f (l - 1))
   from-more a f l h = let e : l + 1 - 1 ≡ suc (l - 1) = omega arith in ap (sum-from o a f) e
@@ -28,7 +25,7 @@ module _ {M : Type 0} (o : Ops M) where
   summed-made d start zero a b x y first later some e h = absurd (omega arith)
   summed-made d start (suc n) a b x y first later some e h =
       let less : suc n - 1 ≡ n = omega arith in
-      ap (sum-from o first later) less ∙ from-cong first _ later _ n e (λ l k. h l)
+      ap (sum-from o first later) less ∙ ap (λ z. sum-from o z later n) e ∙ sum-same o _ later _ n (λ l k. h l)
 
   -- the same columns, counted from other starts
   pub summed-cong : (d d′ : ℕ → M) (start start′ n : ℕ) (a b : M) (x x′ : ℕ → M) (y y′ : M)
@@ -38,9 +35,10 @@ module _ {M : Type 0} (o : Ops M) where
   summed-cong d d′ start start′ (suc n) a b x x′ y y′ cols coeffs old =
       let first : d start ≡ d′ start′ = ap d (sym (add-zero start)) ∙ cols 0 (omega arith) ∙ ap d′ (add-zero start′) in
       let x-first = coeffs 0 (omega arith) in
-      from-cong _ _ _ _ n
+      ap (λ z. sum-from o z (λ l. o .times (o .times a (d (start + suc l))) (x (suc l))) n)
       (ap (λ z. blend o (o .times a z) (x 0) b y) first ∙ ap (λ z. blend o (o .times a (d′ start′)) z b y) x-first
       ∙ ap (λ z. blend o (o .times a (d′ start′)) (x′ 0) b z) old)
+      ∙ sum-same o _ _ _ n
       (λ l h. ap₂ (λ p q. o .times (o .times a p) q) (cols (suc l) (omega arith)) (coeffs (suc l) (omega arith)))
 
   -- a column of the range

@@ -26,7 +26,7 @@ fn gain_column<S: Scalar>(c: S, p: &[S], y: &mut [S], to: usize)
     gain_run(c, p, &mut y[to..to + p.len()]);
 }
 
-/// The columns of y, each as long as p, gain a·p times their coefficients.
+/// Column l of y, each as long as p, gains (a·x_l)·p.
 fn gain_columns<S: Scalar>(a: Scale<S>, x: &[S], p: &[S], y: &mut [S])
     requires { ⌜ length (now y) ≡ length (now x) * length (now p) ⌝ }
     ensures { λ _. ⌜ ((k : ℕ) (d : S) → k < length (now (y .entry)) → inBlock means (length (now (p .entry))) (λ l i. ops .plus (at means ops (now (y .entry)) (l * length (now (p .entry)) + i)) (ops .times (ops .times (means (a .0)) (at means ops (now (x .entry)) l)) (at means ops (now (p .entry)) i))) k (getD (now (y .exit)) k d)) ⌝ }

@@ -32,12 +32,10 @@ fn band_lanes<S: Scalar>(
     requires { ⌜ ProductLawful t (length (now ts)) x (length (now xs)) y (length (now ys)) ⌝ }
     ensures { λ _. ⌜ Applied means ops (summed ops) (means (a .0)) (t .of) (now (ts .entry)) (t .first) (t .count) (broadcast means ops x (now (xs .entry)) (y .of .lanes)) (means (b .0)) y (now (ys .entry)) (now (ys .exit)) ⌝ }
 {
-    let source = x.band();
-    let target = y.band();
     for lane in 0..y.of.lanes {
         let from = t.start(lane_for(lane, t.of.lanes, y.of.lanes));
-        let with = source.start(lane_for(lane, x.of.lanes, y.of.lanes));
-        let to = target.start(lane);
+        let with = x.start(lane_for(lane, x.of.lanes, y.of.lanes));
+        let to = y.start(lane);
         sum_part(a, ts, from, xs, with, t.count, b, ys, to, y.of.rows);
     }
 }

@@ -29,14 +29,13 @@ fn spread_lanes<S: Scalar>(
     requires { ⌜ RangeLawful t (length (now ts)) start (length (now x)) (length (now x)) p (length (now ps)) ⌝ }
     ensures { λ _. ⌜ GerCols means ops (means (a .0)) (now (x .entry)) p (now (ps .entry)) t start (length (now (x .entry))) (now (ts .entry)) (now (ts .exit)) ⌝ }
 {
-    let source = p.band();
     let target = Band {
         of: t,
         first: start,
         count: x.len(),
     };
     for lane in 0..t.lanes {
-        let from = source.start(lane_for(lane, p.of.lanes, t.lanes));
+        let from = p.start(lane_for(lane, p.of.lanes, t.lanes));
         gain_part(a, x, ps, from, t.rows, ts, target.start(lane));
     }
 }

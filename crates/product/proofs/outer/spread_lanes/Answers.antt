@@ -2,7 +2,7 @@ use Prim.Native.Nat.{_≤_}
 use native.Mathlib.Omega.{arith}
 use lib.ListN.{length}
 use Rattle.shape.proofs.Cells.{lanes-none, lanes-all}
-use Rattle.product.proofs.LaneLoops.{column-from}
+use Rattle.shape.proofs.Broadcast.{reads-from}
 use Rattle.product.proofs.Updates.{runs-inside, spread-more}
 use Rattle.product.proofs.outer.spread_lanes.Needs as need
 
@@ -14,7 +14,7 @@ gain-part-requires g c κs =
     let pl = length (c .args .ps .now) in
     let lane = c .loop-lane .lane in
     let l = c .loop-lane-test .taken in
-    let from = column-from p (c .band-source .result) pl lane (t .lanes) (c .lane-for .result) (c .start-from .result) (c .band-source .ensures) (c .pre .column) l (c .pre .table .few-lanes) (c .lane-for .ensures) (c .start-from .ensures) in
+    let from = reads-from p pl (t .lanes) lane (c .lane-for .result) (c .start-from .result) (c .pre .column) l (c .pre .table .few-lanes) (c .lane-for .ensures) (c .start-from .ensures) in
     let first : c .args .start ≤ t .cols = omega (arith, c .pre .within) in
     let to = c .start .ensures tl (c .pre .table) first l in
     let inside = runs-inside t tl (c .args .start) (length (c .args .x .now)) p pl lane (c .start-from .result) (c .start .result) (c .pre) l from to in
@@ -32,7 +32,7 @@ loop-lane-again g c =
     let old = c .args .ts .now in
     let lane = c .loop-lane .lane in
     let l = c .loop-lane-test .taken in
-    let from = column-from p (c .band-source .result) (length ps) lane (t .lanes) (c .lane-for .result) (c .start-from .result) (c .band-source .ensures) (c .pre .column) l (c .pre .table .few-lanes) (c .lane-for .ensures) (c .start-from .ensures) in
+    let from = reads-from p (length ps) (t .lanes) lane (c .lane-for .result) (c .start-from .result) (c .pre .column) l (c .pre .table .few-lanes) (c .lane-for .ensures) (c .start-from .ensures) in
     let first : c .args .start ≤ t .cols = omega (arith, c .pre .within) in
     let to = c .start .ensures (length old) (c .pre .table) first l in
     spread-more (s .means) (s .ops) (s .means (c .args .a .0)) (c .args .x .now) p ps t (c .args .start) old (c .pre)
