@@ -1,0 +1,4 @@
+pub mod Rows
+pub mod Matrices
+pub mod Products
+pub mod Tiles
