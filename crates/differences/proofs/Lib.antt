@@ -1,1 +1,5 @@
 pub mod Constants
+pub mod Pieces
+pub mod RowLaws
+pub mod ProductLaws
+pub mod Accepted

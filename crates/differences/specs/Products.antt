@@ -1,6 +1,6 @@
 -- The first columns of every row times a small matrix: the tests of the call, and what it leaves. Assumes nothing.
 use mathlib.Core.Bool.{Bool, not, _||_}
-use mathlib.Core.List.{List, [], _∷_}
+use mathlib.Core.List.{List, [], _∷_, map}
 use Prim.Native.Nat.{ℕ, _*_, _≤_}
 use lib.Dec.{eqb, ltb}
 use Rattle.scalar.specs.Ops.{Ops}
@@ -9,7 +9,8 @@ use Rattle.shape.specs.Shapes.{cell, noLanes, tooLarge, misfit, Fits}
 use Rattle.shape.specs.Changes.{Changed, meant, InBand}
 use Rattle.shape.specs.declared.operand.TableShape.{TableShape}
 use Rattle.differences.specs.Rows.{multiplied}
-use Rattle.differences.specs.Matrices.{Small}
+use Rattle.differences.specs.Matrices.{Small, entryOf}
+use Rattle.differences.specs.declared.matrix.Entries.the-variants.{ByRows, ByColumns}
 use Rattle.differences.specs.declared.matrix.Matrix.{Matrix}
 
 -- column l in row i of lane b of a table in a memory
@@ -26,6 +27,13 @@ productTests t len k count work =
     ∷ (5, ltb 8 k)
     ∷ (6, not (eqb count (k * k))) ∷ []
 
+-- k by k numbers, read by rows or by columns
+abbrev pub byRows : ℕ → Matrix
+byRows k = record { size = k; entries = ByRows }
+
+abbrev pub byColumns : ℕ → Matrix
+byColumns k = record { size = k; entries = ByColumns }
+
 pub record ProductLawful (t : TableShape) (len : ℕ) (m : Matrix) (count work : ℕ) : Type 0 where
   pub fits : Fits t len
   pub room : 8 ≤ work
@@ -35,3 +43,7 @@ pub record ProductLawful (t : TableShape) (len : ℕ) (m : Matrix) (count work :
 -- the columns below k are the row times the matrix m, and no other moved
 abbrev pub Multiplied : {S M : Type 0} → (S → M) → Ops M → TableShape → ℕ → (ℕ → ℕ → M) → List S → List S → Type 0
 Multiplied means o t k m old cur = Changed t (InBand 0 k) (meant means (λ b j i. multiplied o (rowOf means o t old b i) k m j)) old cur
+
+-- the same as a function of the cell
+abbrev pub product : {S M : Type 0} → (S → M) → Ops M → TableShape → Matrix → List S → List S → ℕ → ℕ → ℕ → M
+product means o t m numbers old b j i = multiplied o (rowOf means o t old b i) (m .size) (entryOf o m (map means numbers)) j

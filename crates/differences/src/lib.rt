@@ -1,3 +1,8 @@
-//! Calls on the first columns of a table of backward differences, over any scalar.
+//! Calls on the first columns of a table of backward differences, over any scalar: their product by
+//! a small matrix, the update of the differences, and the transposes of both.
 pub mod matrix;
+pub mod multiply;
 pub mod tile;
+
+pub use multiply::mul_cols_by;
+pub use multiply::mul_cols_by_transpose;
