@@ -3,3 +3,4 @@ pub mod Pieces
 pub mod RowLaws
 pub mod ProductLaws
 pub mod Accepted
+pub mod Runs

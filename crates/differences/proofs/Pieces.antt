@@ -4,7 +4,7 @@ use mathlib.Core.List.{List}
 use mathlib.Core.Logic.{_⊎_, inl, inr}
 use Prim.Native.Nat.{ℕ, _+_, _-_, _*_, _<_, _≤_}
 use native.Mathlib.Omega.{arith}
-use native.Mathlib.Nat.{mul-le-mul}
+use native.Mathlib.Nat.{add-mul, mul-le-mul}
 use lib.ListN.{length, getD}
 use Rattle.std.proofs.shelf.Tests.{cases-lt, cases-eq}
 use Rattle.scalar.specs.Ops.{Ops}
@@ -21,6 +21,11 @@ pub start-small : (t : TableShape) (len b c : ℕ) → Fits t len → b < t .lan
 start-small t len b c fits lane col =
     let lanes : b * t .cols ≤ 4096 * 1024 = mul-le-mul {n₂ = 4096} {m₂ = 1024} (omega (arith, fits .few-lanes)) (fits .few-cols) in
     mul-le-mul {n₂ = 4096 * 1024 + 1024} {m₂ = 65536} (omega (arith, fits .few-cols)) (fits .few-rows)
+
+pub start-next : (t : TableShape) (b j : ℕ) → start t b (j + 1) ≡ start t b j + t .rows
+start-next t b j =
+    let e : b * t .cols + (j + 1) ≡ b * t .cols + j + 1 = omega arith in
+    ap (λ q. q * t .rows) e ∙ add-mul (b * t .cols + j) 1 (t .rows) ∙ omega arith
 
 -- h rows from row r on of column c of lane l
 abbrev pub InPiece : ℕ → ℕ → ℕ → ℕ → ℕ → ℕ → ℕ → Type 0
@@ -56,6 +61,28 @@ piece-changed t l c r h a P cur cur′ at-a rows col wrote = record {
       let place : a + (i - r) ≡ cell t b j i = omega arith in
       rw (sym place) (wrote .written (i - r) d (omega arith));
   kept = λ b j i d w out. wrote .kept (cell t b j i) d (rw at-a (piece-apart t l c r h b j i rows col w out));
+}
+
+-- a whole column
+pub column-changed : {S : Type 0} (t : TableShape) (l c a : ℕ) (P : ℕ → S → Type 0) (cur cur′ : List S) → a ≡ start t l c → c < t .cols
+    → RunChanged a (t .rows) P cur cur′ → Changed t (LaneBand l c 1) (λ b j i. P i) cur cur′
+column-changed t l c a P cur cur′ at-a col wrote = record {
+  written = λ b j i d w h.
+      let column : j ≡ c = omega arith in
+      let q = same-column t l c b j i (h .0) column in
+      let place : a + i ≡ cell t b j i = omega arith in
+      rw (sym place) (wrote .written i d (w .row));
+  kept = λ b j i d w out. wrote .kept (cell t b j i) d
+      (elim (band-apart t l c 1 b j i (omega arith) (w .col) (w .row) out) [ inl low ↦ inl (omega arith) | inr high ↦ inr (omega arith) ]);
+}
+
+-- the cells of D are written over with those of E
+pub changed-over : {S : Type 0} (t : TableShape) (D E : ℕ → ℕ → ℕ → Type 0) (P Q R : ℕ → ℕ → ℕ → S → Type 0) (old cur cur′ : List S)
+    → ((b j i : ℕ) → D b j i → E b j i) → ((b j i : ℕ) (v : S) → In t b j i → E b j i → Q b j i v → R b j i v)
+    → Changed t D P old cur → Changed t E Q cur cur′ → Changed t E R old cur′
+changed-over t D E P Q R old cur cur′ inside agree before wrote = record {
+  written = λ b j i d w h. agree b j i _ w h (wrote .written b j i d w h);
+  kept = λ b j i d w out. wrote .kept b j i d w out ∙ before .kept b j i d w (λ h. out (inside b j i h));
 }
 
 -- a cell that was not written means what it meant

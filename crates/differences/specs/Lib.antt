@@ -2,3 +2,4 @@ pub mod Rows
 pub mod Matrices
 pub mod Products
 pub mod Tiles
+pub mod Updates

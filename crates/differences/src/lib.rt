@@ -2,7 +2,10 @@
 //! a small matrix, the update of the differences, and the transposes of both.
 pub mod matrix;
 pub mod multiply;
+pub mod place;
 pub mod tile;
+pub mod update;
 
 pub use multiply::mul_cols_by;
 pub use multiply::mul_cols_by_transpose;
+pub use update::update_backward_diff;

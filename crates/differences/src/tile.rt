@@ -10,8 +10,8 @@ ghost use Rattle.differences.specs.Matrices.{Small};
 ghost use Rattle.differences.specs.Products.{ProductLawful, product};
 ghost use Rattle.differences.specs.Tiles.{Within, InTile, Staged, stagedProduct};
 use crate::matrix::Matrix;
+use crate::place::start_of;
 use scalar::Scalar;
-use shape::Band;
 use shape::TableShape;
 
 /// Rows `row` to `row + height − 1` of one lane.
@@ -30,12 +30,7 @@ impl Tile {
         requires col { ⌜ col < t .cols ⌝ }
         ensures { λ r. ⌜ r ≡ cell t (self .lane) col (self .row) ⌝ }
     {
-        let band = Band {
-            of: t,
-            first: col,
-            count: 1,
-        };
-        band.start(self.lane) + self.row
+        start_of(t, self.lane, col) + self.row
     }
 }
 
