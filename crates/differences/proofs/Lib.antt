@@ -4,3 +4,4 @@ pub mod RowLaws
 pub mod ProductLaws
 pub mod Accepted
 pub mod Runs
+pub mod UpdateLaws

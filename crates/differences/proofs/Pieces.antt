@@ -76,15 +76,6 @@ column-changed t l c a P cur cur′ at-a col wrote = record {
       (elim (band-apart t l c 1 b j i (omega arith) (w .col) (w .row) out) [ inl low ↦ inl (omega arith) | inr high ↦ inr (omega arith) ]);
 }
 
--- the cells of D are written over with those of E
-pub changed-over : {S : Type 0} (t : TableShape) (D E : ℕ → ℕ → ℕ → Type 0) (P Q R : ℕ → ℕ → ℕ → S → Type 0) (old cur cur′ : List S)
-    → ((b j i : ℕ) → D b j i → E b j i) → ((b j i : ℕ) (v : S) → In t b j i → E b j i → Q b j i v → R b j i v)
-    → Changed t D P old cur → Changed t E Q cur cur′ → Changed t E R old cur′
-changed-over t D E P Q R old cur cur′ inside agree before wrote = record {
-  written = λ b j i d w h. agree b j i _ w h (wrote .written b j i d w h);
-  kept = λ b j i d w out. wrote .kept b j i d w out ∙ before .kept b j i d w (λ h. out (inside b j i h));
-}
-
 -- a cell that was not written means what it meant
 pub rest-means : {S M : Type 0} (means : S → M) (o : Ops M) (t : TableShape) (D : ℕ → ℕ → ℕ → Type 0) (P : ℕ → ℕ → ℕ → S → Type 0) (old cur : List S)
     → Fits t (length old) → length cur ≡ length old → Changed t D P old cur

@@ -33,6 +33,9 @@ module _ {M : Type 0} (o : Ops M) where
   pub updated-in : (x : ℕ → M) (d : M) (k j : ℕ) → j < k + 3 → updated o x d k j ≡ scanned o x d k (k + 2 - j)
   updated-in x d k j h = cond-true (leb j (k + 2)) _ _ (le-leb j (k + 2) (omega arith))
 
+  pub updated-last : (x : ℕ → M) (d : M) (k : ℕ) → updated o x d k (k + 2) ≡ o .plus d (o .minus (x (k + 1)))
+  updated-last x d k = let none : k + 2 - (k + 2) ≡ 0 = omega arith in updated-in x d k (k + 2) (omega arith) ∙ ap (scanned o x d k) none
+
   scanned-cong : (x y : ℕ → M) (d e : M) (k : ℕ) → ((l : ℕ) → l < k + 3 → x l ≡ y l) → d ≡ e → (t : ℕ) → scanned o x d k t ≡ scanned o y e k t
   scanned-cong x y d e k same is zero = let p = same (k + 1) (omega arith) in cc
   scanned-cong x y d e k same is (suc t) = let p = same (k + 1 - t) (omega arith) in let q = scanned-cong x y d e k same is t in cc

@@ -8,7 +8,7 @@ use Rattle.scalar.specs.Ops.{Ops}
 use Rattle.scalar.specs.Sums.{at}
 use Rattle.shape.specs.Shapes.{cell, noLanes, tooLarge, misfit, noColumn, Fits, Lawful}
 use Rattle.shape.specs.Lanes.{laneFor, noBroadcast}
-use Rattle.shape.specs.Changes.{Changed, meant, InBand}
+use Rattle.shape.specs.Changes.{Changed, meant, InBand, LaneBand}
 use Rattle.shape.specs.declared.operand.Column.{Column}
 use Rattle.shape.specs.declared.operand.TableShape.{TableShape}
 use Rattle.differences.specs.Rows.{updated}
@@ -51,6 +51,10 @@ accumulated o x n (suc t) = o .plus (x (n - suc t)) (accumulated o x n t)
 
 abbrev pub accumulation : {S M : Type 0} → (S → M) → Ops M → TableShape → ℕ → List S → ℕ → ℕ → ℕ → M
 accumulation means o t n old b j i = accumulated o (rowOf means o t old b i) n (n - j)
+
+-- the columns of a lane from j up to column n are accumulated, and no other moved
+abbrev pub Accumulated : {S M : Type 0} → (S → M) → Ops M → TableShape → ℕ → ℕ → ℕ → List S → List S → Type 0
+Accumulated means o t lane n j old cur = Changed t (LaneBand lane j (n - j)) (meant means (accumulation means o t n old)) old cur
 
 -- the update of a lane whose run of d starts at the place a
 abbrev pub laneUpdate : {S M : Type 0} → (S → M) → Ops M → TableShape → ℕ → List S → ℕ → List S → ℕ → ℕ → ℕ → M

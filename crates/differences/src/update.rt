@@ -1,6 +1,7 @@
 //! The update of a table of backward differences by a new difference d.
 ghost use mathlib.Core.Path.{_≡_};
 ghost use mathlib.Core.Bool.{Bool, false};
+ghost use mathlib.Core.List.{List};
 ghost use Prim.Native.Nat.{ℕ, _+_, _-_, _<_, _≤_};
 ghost use lib.Dec.{leb};
 ghost use lib.ListN.{length};
@@ -9,7 +10,7 @@ ghost use Rattle.scalar.specs.Sums.{at};
 ghost use Rattle.shape.specs.Shapes.{Fits};
 ghost use Rattle.shape.specs.Refusals.{answer, firstOf};
 ghost use Rattle.shape.specs.Changes.{Changed, RunChanged, LaneBand, meant};
-ghost use Rattle.differences.specs.Updates.{updateTests, UpdateLawful, Updated, accumulation, laneUpdate};
+ghost use Rattle.differences.specs.Updates.{updateTests, UpdateLawful, Updated, Accumulated, laneUpdate};
 use crate::place::start_of;
 use crate::place::start_read;
 use scalar::Scalar;
@@ -103,15 +104,26 @@ fn difference_run<S: Scalar>(
     }
 }
 
+/// Column j of a lane gains its right neighbour: where the columns from j + 1 up to n are
+/// accumulated, those from j on are then too.
+fn gain_column<S: Scalar>(t: TableShape, ts: &mut [S], lane: usize, j: usize)
+    requires fits { ⌜ Fits t (length (now ts)) ⌝ }
+    requires lane { ⌜ lane < t .lanes ⌝ }
+    requires within { ⌜ j + 1 < t .cols ⌝ }
+    ensures { λ _. ⌜ ((n m : ℕ) (old : List S) → Accumulated means ops t lane n m old (now (ts .entry)) → m ≡ j + 1 → j < n → length (now (ts .entry)) ≡ length old → Accumulated means ops t lane n j old (now (ts .exit))) ⌝ }
+{
+    gain_run(ts, start_of(t, lane, j), start_of(t, lane, j + 1), t.rows);
+}
+
 /// In one lane the columns left of column n gain their right neighbour, from the last down to 0.
 fn accumulate_lane<S: Scalar>(t: TableShape, ts: &mut [S], lane: usize, n: usize)
     requires fits { ⌜ Fits t (length (now ts)) ⌝ }
     requires lane { ⌜ lane < t .lanes ⌝ }
     requires within { ⌜ n < t .cols ⌝ }
-    ensures { λ _. ⌜ Changed t (LaneBand lane 0 (n + 1)) (meant means (accumulation means ops t n (now (ts .entry)))) (now (ts .entry)) (now (ts .exit)) ⌝ }
+    ensures { λ _. ⌜ Accumulated means ops t lane n 0 (now (ts .entry)) (now (ts .exit)) ⌝ }
 {
     for j in (0..n).rev() {
-        gain_run(ts, start_of(t, lane, j), start_of(t, lane, j + 1), t.rows);
+        gain_column(t, ts, lane, j);
     }
 }
 
