@@ -5,3 +5,4 @@ pub mod ProductLaws
 pub mod Accepted
 pub mod Runs
 pub mod UpdateLaws
+pub mod TransposeLaws

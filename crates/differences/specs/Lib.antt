@@ -3,3 +3,4 @@ pub mod Matrices
 pub mod Products
 pub mod Tiles
 pub mod Updates
+pub mod Transposes

@@ -4,8 +4,11 @@ pub mod matrix;
 pub mod multiply;
 pub mod place;
 pub mod tile;
+pub mod total;
+pub mod transpose;
 pub mod update;
 
 pub use multiply::mul_cols_by;
 pub use multiply::mul_cols_by_transpose;
+pub use transpose::update_backward_diff_transpose;
 pub use update::update_backward_diff;
