@@ -1,8 +1,8 @@
 pub mod Constants
 pub mod Pieces
 pub mod RowLaws
-pub mod ProductLaws
-pub mod Accepted
+pub mod MulColsLaws
+pub mod Acceptance
 pub mod Runs
 pub mod UpdateLaws
 pub mod TransposeLaws

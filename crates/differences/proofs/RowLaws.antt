@@ -49,7 +49,7 @@ module _ {M : Type 0} (o : Ops M) where
       let back : n - suc (n - (j + 1)) ≡ j = omega arith in
       ap (accumulated o x n) e ∙ ap (λ z. o .plus (x z) (accumulated o x n (n - (j + 1)))) back
 
-  -- the update is an accumulation from its last column, which is written first
+  -- the update is an cellAccumulated from its last column, which is written first
   accumulated-scanned : (x y : ℕ → M) (d : M) (k : ℕ) → y (k + 2) ≡ o .plus d (o .minus (x (k + 1))) → ((l : ℕ) → l < k + 2 → y l ≡ x l)
       → (t : ℕ) → t ≤ k + 2 → accumulated o y (k + 2) t ≡ scanned o x d k t
   accumulated-scanned x y d k last same zero h = last

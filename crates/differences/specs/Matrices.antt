@@ -12,7 +12,7 @@ use Rattle.differences.specs.declared.matrix.Entries.{Entries}
 use Rattle.differences.specs.declared.matrix.Entries.the-variants.{ByRows, ByColumns, OfTranspose}
 use Rattle.differences.specs.declared.matrix.Matrix.{Matrix}
 
--- the matrix t of the update's transpose of order k in whole numbers
+-- the matrix t of the update's transpose of order k, in whole numbers
 abbrev pub sign : ℕ → ℕ → ℕ → ℤ
 sign k j l = cond (leb j k) (cond (leb l j) (pos 1) (pos 0)) (cond (eqb j (k + 1) && eqb l (k + 2)) (negsuc 0) (pos 0))
 
@@ -45,12 +45,13 @@ entries o (OfTranspose order) k ms = transposed o order
 abbrev pub entryOf : {M : Type 0} → Ops M → Matrix → List M → ℕ → ℕ → M
 entryOf o m ms = entries o (m .entries) (m .size) ms
 
--- there are `count` numbers, as many as the matrix has
+-- there are `count` numbers, as many as the matrix has, or the table has its order
 abbrev pub Enough : Entries → ℕ → ℕ → Type 0
 Enough ByRows k count = count ≡ k * k
 Enough ByColumns k count = count ≡ k * k
 Enough (OfTranspose order) k count = order ≤ 5
 
+-- a matrix of at most 8 rows, with its entries
 pub record Small (m : Matrix) (count : ℕ) : Type 0 where
   pub few : m .size ≤ 8
   pub enough : Enough (m .entries) (m .size) count

@@ -4,9 +4,9 @@ use mathlib.Core.List.{List, map}
 use Prim.Native.Nat.{ℕ, _+_, _*_, _<_, _≤_}
 use lib.ListN.{getD}
 use Rattle.scalar.specs.Ops.{Ops}
-use Rattle.scalar.specs.Sums.{at}
 use Rattle.shape.specs.Shapes.{cell}
 use Rattle.shape.specs.declared.operand.TableShape.{TableShape}
+use Rattle.product.specs.Results.{runRow}
 use Rattle.differences.specs.Rows.{multiplied}
 use Rattle.differences.specs.Matrices.{entryOf}
 use Rattle.differences.specs.declared.matrix.Matrix.{Matrix}
@@ -30,10 +30,6 @@ RowsAbove lane n k b j i = (b ≡ lane) × (i < n) × (j < k)
 abbrev pub Staged : {S : Type 0} → TableShape → List S → Tile → ℕ → List S → Type 0
 Staged {S = S} t mem p k work = (l r : ℕ) (d : S) → l < k → r < p .height → getD work (l * p .height + r) d ≡ getD mem (cell t (p .lane) l (p .row + r)) d
 
--- column l in row r of a staged tile
-abbrev pub stagedRow : {S M : Type 0} → (S → M) → Ops M → List S → ℕ → ℕ → ℕ → M
-stagedRow means o work height r l = at means o work (l * height + r)
-
--- column j in that row times a matrix
+-- column j in row r of a staged tile times a matrix
 abbrev pub stagedProduct : {S M : Type 0} → (S → M) → Ops M → List S → ℕ → Matrix → List S → ℕ → ℕ → M
-stagedProduct means o work height m numbers j r = multiplied o (stagedRow means o work height r) (m .size) (entryOf o m (map means numbers)) j
+stagedProduct means o work height m numbers j r = multiplied o (runRow means o work height r) (m .size) (entryOf o m (map means numbers)) j

@@ -14,7 +14,8 @@ use Rattle.shape.specs.declared.operand.Column.{Column}
 use Rattle.shape.specs.declared.operand.TableShape.{TableShape}
 use Rattle.product.specs.Rows.{summed}
 use Rattle.differences.specs.Rows.{transposed}
-use Rattle.differences.specs.Products.{rowOf, Multiplied}
+use Rattle.product.specs.Results.{rowOf}
+use Rattle.differences.specs.MulCols.{Multiplied}
 
 -- order k, the column d of a memory of `dl` scalars, and `work` scalars of work memory
 abbrev pub transposeTests : TableShape → ℕ → ℕ → Column → ℕ → ℕ → List (ℕ × Bool)
@@ -42,12 +43,12 @@ module _ {S M : Type 0} (means : S → M) (o : Ops M) where
   rowFor t ts d b i = rowOf means o t ts (laneFor b (t .lanes) (d .of .lanes)) i
 
   -- the sum of n columns, as gemv makes it with ones for coefficients and zero for b
-  abbrev pub total : TableShape → List S → ℕ → Column → ℕ → ℕ → ℕ → M
-  total t ts n d b j i = summed o (rowFor t ts d b i) 0 n (o .one) (o .zero) (λ l. o .one) (o .zero)
+  abbrev pub cellTotalled : TableShape → List S → ℕ → Column → ℕ → ℕ → ℕ → M
+  cellTotalled t ts n d b j i = summed o (rowFor t ts d b i) 0 n (o .one) (o .zero) (λ l. o .one) (o .zero)
 
   -- column d holds that sum of the first n columns, and no other moved
   abbrev pub Totalled : TableShape → List S → ℕ → Column → List S → List S → Type 0
-  Totalled t ts n d old cur = Changed (d .of) (InColumn (d .col)) (meant means (total t ts n d)) old cur
+  Totalled t ts n d old cur = Changed (d .of) (InColumn (d .col)) (meant means (cellTotalled t ts n d)) old cur
 
   -- d holds the sum of the columns up to k + 2, and those are multiplied by the constant matrix
   pub record Transposed (t : TableShape) (k : ℕ) (d : Column) (ts ts′ ds ds′ : List S) : Type 0 where

@@ -6,13 +6,13 @@ use Prim.Native.Nat.{ℕ, zero, suc, _+_, _-_, _<_}
 use lib.Dec.{eqb, leb}
 use Rattle.scalar.specs.Ops.{Ops}
 use Rattle.scalar.specs.Sums.{at}
-use Rattle.shape.specs.Shapes.{cell, noLanes, tooLarge, misfit, noColumn, Fits, Lawful}
-use Rattle.shape.specs.Lanes.{laneFor, noBroadcast}
+use Rattle.shape.specs.Shapes.{noLanes, tooLarge, misfit, noColumn, Fits, Lawful}
+use Rattle.shape.specs.Lanes.{noBroadcast}
 use Rattle.shape.specs.Changes.{Changed, meant, InBand, LaneBand}
 use Rattle.shape.specs.declared.operand.Column.{Column}
 use Rattle.shape.specs.declared.operand.TableShape.{TableShape}
 use Rattle.differences.specs.Rows.{updated}
-use Rattle.differences.specs.Products.{rowOf}
+use Rattle.product.specs.Results.{rowOf, broadcast}
 
 -- order k, and the column d of a memory of `dl` scalars
 abbrev pub updateTests : TableShape → ℕ → ℕ → Column → ℕ → List (ℕ × Bool)
@@ -30,17 +30,13 @@ pub record UpdateLawful (t : TableShape) (len k : ℕ) (d : Column) (dl : ℕ) :
   pub within : k + 2 < t .cols
   pub rows : d .of .rows ≡ t .rows
 
--- row i of column d, in the lane that lane b of `lanes` reads
-abbrev pub entryFor : {S M : Type 0} → (S → M) → Ops M → Column → List S → ℕ → ℕ → ℕ → M
-entryFor means o d ds lanes b i = at means o ds (cell (d .of) (laneFor b (d .of .lanes) lanes) (d .col) i)
-
 -- column j in row i of lane b after the update
-abbrev pub update : {S M : Type 0} → (S → M) → Ops M → TableShape → ℕ → Column → List S → List S → ℕ → ℕ → ℕ → M
-update means o t k d ds old b j i = updated o (rowOf means o t old b i) (entryFor means o d ds (t .lanes) b i) k j
+abbrev pub cellUpdated : {S M : Type 0} → (S → M) → Ops M → TableShape → ℕ → Column → List S → List S → ℕ → ℕ → ℕ → M
+cellUpdated means o t k d ds old b j i = updated o (rowOf means o t old b i) (broadcast means o d ds (t .lanes) b i) k j
 
 -- the columns up to k + 2 are updated, and no other moved
 abbrev pub Updated : {S M : Type 0} → (S → M) → Ops M → TableShape → ℕ → Column → List S → List S → List S → Type 0
-Updated means o t k d ds old cur = Changed t (InBand 0 (k + 3)) (meant means (update means o t k d ds old)) old cur
+Updated means o t k d ds old cur = Changed t (InBand 0 (k + 3)) (meant means (cellUpdated means o t k d ds old)) old cur
 
 -- ---- one lane
 
@@ -49,13 +45,13 @@ abbrev pub accumulated : {M : Type 0} → Ops M → (ℕ → M) → ℕ → ℕ 
 accumulated o x n zero = x n
 accumulated o x n (suc t) = o .plus (x (n - suc t)) (accumulated o x n t)
 
-abbrev pub accumulation : {S M : Type 0} → (S → M) → Ops M → TableShape → ℕ → List S → ℕ → ℕ → ℕ → M
-accumulation means o t n old b j i = accumulated o (rowOf means o t old b i) n (n - j)
+abbrev pub cellAccumulated : {S M : Type 0} → (S → M) → Ops M → TableShape → ℕ → List S → ℕ → ℕ → ℕ → M
+cellAccumulated means o t n old b j i = accumulated o (rowOf means o t old b i) n (n - j)
 
 -- the columns of a lane from j up to column n are accumulated, and no other moved
 abbrev pub Accumulated : {S M : Type 0} → (S → M) → Ops M → TableShape → ℕ → ℕ → ℕ → List S → List S → Type 0
-Accumulated means o t lane n j old cur = Changed t (LaneBand lane j (n - j)) (meant means (accumulation means o t n old)) old cur
+Accumulated means o t lane n j old cur = Changed t (LaneBand lane j (n - j)) (meant means (cellAccumulated means o t n old)) old cur
 
 -- the update of a lane whose run of d starts at the place a
-abbrev pub laneUpdate : {S M : Type 0} → (S → M) → Ops M → TableShape → ℕ → List S → ℕ → List S → ℕ → ℕ → ℕ → M
-laneUpdate means o t k ds a old b j i = updated o (rowOf means o t old b i) (at means o ds (a + i)) k j
+abbrev pub cellUpdatedBy : {S M : Type 0} → (S → M) → Ops M → TableShape → ℕ → List S → ℕ → List S → ℕ → ℕ → ℕ → M
+cellUpdatedBy means o t k ds a old b j i = updated o (rowOf means o t old b i) (at means o ds (a + i)) k j

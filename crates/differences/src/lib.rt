@@ -1,10 +1,10 @@
 //! Calls on the first columns of a table of backward differences, over any scalar: their product by
 //! a small matrix, the update of the differences, and the transposes of both.
-pub mod matrix;
+mod matrix;
 pub mod multiply;
-pub mod place;
-pub mod tile;
-pub mod total;
+mod place;
+mod tile;
+mod total;
 pub mod transpose;
 pub mod update;
 

@@ -1,4 +1,5 @@
-//! Small square matrices: numbers kept by rows or by columns, or the constant matrix of the update's transpose.
+//! Small square matrices: numbers read by rows or by columns, or the constant matrix of the
+//! update's transpose.
 ghost use mathlib.Core.Path.{_≡_};
 ghost use mathlib.Core.Bool.{Bool, true};
 ghost use mathlib.Core.List.{map};

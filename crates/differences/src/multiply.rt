@@ -8,7 +8,7 @@ ghost use Rattle.scalar.specs.Ops.{Ops};
 ghost use Rattle.shape.specs.Refusals.{answer, firstOf};
 ghost use Rattle.differences.specs.Rows.{number};
 ghost use Rattle.differences.specs.Matrices.{entryOf};
-ghost use Rattle.differences.specs.Products.{productTests, ProductLawful, Multiplied, byRows, byColumns};
+ghost use Rattle.differences.specs.MulCols.{mulColsTests, MulColsLawful, Multiplied, byRows, byColumns};
 use crate::matrix::Entries;
 use crate::matrix::Matrix;
 use crate::tile::multiply_lane;
@@ -19,14 +19,14 @@ use shape::check::misfits;
 use shape::check::no_lanes;
 use shape::check::too_large;
 
-fn test_product(
+fn test_mul_cols(
     t: TableShape,
     len: usize,
     k: usize,
     count: usize,
     work: usize,
 ) -> Result<(), Refusal>
-    ensures { λ r. ⌜ answer r ≡ firstOf (productTests t len k count work) ⌝ }
+    ensures { λ r. ⌜ answer r ≡ firstOf (mulColsTests t len k count work) ⌝ }
 {
     if no_lanes(t) {
         return Err(Refusal::NoLanes);
@@ -50,18 +50,18 @@ fn test_product(
 }
 
 /// The tests of a product with numbers, and what acceptance tells, however they are read.
-fn check_product(
+fn check_mul_cols(
     t: TableShape,
     len: usize,
     k: usize,
     count: usize,
     work: usize,
 ) -> Result<(), Refusal>
-    ensures verdict { λ r. ⌜ answer r ≡ firstOf (productTests t len k count work) ⌝ }
-    ensures rows { λ r. ⌜ (answer r ≡ 0 → ProductLawful t len (byRows k) count work) ⌝ }
-    ensures columns { λ r. ⌜ (answer r ≡ 0 → ProductLawful t len (byColumns k) count work) ⌝ }
+    ensures verdict { λ r. ⌜ answer r ≡ firstOf (mulColsTests t len k count work) ⌝ }
+    ensures rows { λ r. ⌜ (answer r ≡ 0 → MulColsLawful t len (byRows k) count work) ⌝ }
+    ensures columns { λ r. ⌜ (answer r ≡ 0 → MulColsLawful t len (byColumns k) count work) ⌝ }
 {
-    test_product(t, len, k, count, work)
+    test_mul_cols(t, len, k, count, work)
 }
 
 /// Every lane of an accepted call.
@@ -72,7 +72,7 @@ pub(crate) fn multiply_lanes<S: Scalar>(
     numbers: &[S],
     work: &mut [S],
 )
-    requires { ⌜ ProductLawful t (length (now ts)) m (length (now numbers)) (length (now work)) ⌝ }
+    requires { ⌜ MulColsLawful t (length (now ts)) m (length (now numbers)) (length (now work)) ⌝ }
     ensures { λ _. ⌜ Multiplied means ops t (m .size) (entryOf ops m (map means (now (numbers .entry)))) (now (ts .entry)) (now (ts .exit)) ⌝ }
 {
     for lane in 0..t.lanes {
@@ -88,11 +88,11 @@ pub fn mul_cols_by<S: Scalar>(
     numbers: &[S],
     work: &mut [S],
 ) -> Result<(), Refusal>
-    ensures verdict { λ r. ⌜ answer r ≡ firstOf (productTests t (length (now (ts .entry))) k (length (now (numbers .entry))) (length (now (work .entry)))) ⌝ }
+    ensures verdict { λ r. ⌜ answer r ≡ firstOf (mulColsTests t (length (now (ts .entry))) k (length (now (numbers .entry))) (length (now (work .entry)))) ⌝ }
     ensures accepted { λ r. ⌜ (answer r ≡ 0 → Multiplied means ops t k (number ops k (map means (now (numbers .entry)))) (now (ts .entry)) (now (ts .exit))) ⌝ }
     ensures refused { λ r. ⌜ ((answer r ≡ 0 → ⊥) → (now (ts .exit) ≡ now (ts .entry)) × (now (work .exit) ≡ now (work .entry))) ⌝ }
 {
-    check_product(t, ts.len(), k, numbers.len(), work.len())?;
+    check_mul_cols(t, ts.len(), k, numbers.len(), work.len())?;
     let m = Matrix {
         size: k,
         entries: Entries::ByRows,
@@ -110,11 +110,11 @@ pub fn mul_cols_by_transpose<S: Scalar>(
     numbers: &[S],
     work: &mut [S],
 ) -> Result<(), Refusal>
-    ensures verdict { λ r. ⌜ answer r ≡ firstOf (productTests t (length (now (ts .entry))) k (length (now (numbers .entry))) (length (now (work .entry)))) ⌝ }
+    ensures verdict { λ r. ⌜ answer r ≡ firstOf (mulColsTests t (length (now (ts .entry))) k (length (now (numbers .entry))) (length (now (work .entry)))) ⌝ }
     ensures accepted { λ r. ⌜ (answer r ≡ 0 → Multiplied means ops t k (λ j l. number ops k (map means (now (numbers .entry))) l j) (now (ts .entry)) (now (ts .exit))) ⌝ }
     ensures refused { λ r. ⌜ ((answer r ≡ 0 → ⊥) → (now (ts .exit) ≡ now (ts .entry)) × (now (work .exit) ≡ now (work .entry))) ⌝ }
 {
-    check_product(t, ts.len(), k, numbers.len(), work.len())?;
+    check_mul_cols(t, ts.len(), k, numbers.len(), work.len())?;
     let m = Matrix {
         size: k,
         entries: Entries::ByColumns,

@@ -7,7 +7,7 @@ ghost use Rattle.scalar.specs.Ops.{Ops};
 ghost use Rattle.shape.specs.Shapes.{cell, Fits};
 ghost use Rattle.shape.specs.Changes.{Changed, RunChanged, LaneBand, meant};
 ghost use Rattle.differences.specs.Matrices.{Small};
-ghost use Rattle.differences.specs.Products.{ProductLawful, product};
+ghost use Rattle.differences.specs.MulCols.{MulColsLawful, cellMultiplied};
 ghost use Rattle.differences.specs.Tiles.{Within, InTile, Staged, stagedProduct};
 use crate::matrix::Matrix;
 use crate::place::start_of;
@@ -129,10 +129,10 @@ fn multiply_tile<S: Scalar>(
     numbers: &[S],
     work: &mut [S],
 )
-    requires law { ⌜ ProductLawful t (length (now ts)) m (length (now numbers)) (length (now work)) ⌝ }
+    requires law { ⌜ MulColsLawful t (length (now ts)) m (length (now numbers)) (length (now work)) ⌝ }
     requires tile { ⌜ Within t tile ⌝ }
     requires room { ⌜ m .size * tile .height ≤ length (now work) ⌝ }
-    ensures { λ _. ⌜ Changed t (InTile tile (m .size)) (meant means (product means ops t m (now (numbers .entry)) (now (ts .entry)))) (now (ts .entry)) (now (ts .exit)) ⌝ }
+    ensures { λ _. ⌜ Changed t (InTile tile (m .size)) (meant means (cellMultiplied means ops t m (now (numbers .entry)) (now (ts .entry)))) (now (ts .entry)) (now (ts .exit)) ⌝ }
 {
     stage(t, ts, tile, m.size, work);
     write_tile(t, ts, tile, m, numbers, work);
@@ -160,9 +160,9 @@ pub(crate) fn multiply_lane<S: Scalar>(
     numbers: &[S],
     work: &mut [S],
 )
-    requires law { ⌜ ProductLawful t (length (now ts)) m (length (now numbers)) (length (now work)) ⌝ }
+    requires law { ⌜ MulColsLawful t (length (now ts)) m (length (now numbers)) (length (now work)) ⌝ }
     requires lane { ⌜ lane < t .lanes ⌝ }
-    ensures { λ _. ⌜ Changed t (LaneBand lane 0 (m .size)) (meant means (product means ops t m (now (numbers .entry)) (now (ts .entry)))) (now (ts .entry)) (now (ts .exit)) ⌝ }
+    ensures { λ _. ⌜ Changed t (LaneBand lane 0 (m .size)) (meant means (cellMultiplied means ops t m (now (numbers .entry)) (now (ts .entry)))) (now (ts .entry)) (now (ts .exit)) ⌝ }
 {
     let tall = tallest(work.len(), m.size);
     let mut row = 0;

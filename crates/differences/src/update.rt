@@ -10,7 +10,7 @@ ghost use Rattle.scalar.specs.Sums.{at};
 ghost use Rattle.shape.specs.Shapes.{Fits};
 ghost use Rattle.shape.specs.Refusals.{answer, firstOf};
 ghost use Rattle.shape.specs.Changes.{Changed, RunChanged, LaneBand, meant};
-ghost use Rattle.differences.specs.Updates.{updateTests, UpdateLawful, Updated, Accumulated, laneUpdate};
+ghost use Rattle.differences.specs.Updates.{updateTests, UpdateLawful, Updated, Accumulated, cellUpdatedBy};
 use crate::place::start_of;
 use crate::place::start_read;
 use scalar::Scalar;
@@ -74,6 +74,13 @@ fn check_update(
     test_update(t, len, order, d, d_len)
 }
 
+/// d − x: the negation is added.
+fn less<S: Scalar>(d: S, x: S) -> S
+    ensures { λ r. ⌜ means r ≡ ops .plus (means d) (ops .minus (means x)) ⌝ }
+{
+    d.add(x.neg())
+}
+
 /// The run at `to` gains the run after it at `from`.
 fn gain_run<S: Scalar>(ts: &mut [S], to: usize, from: usize, rows: usize)
     requires apart { ⌜ to + rows ≤ from ⌝ }
@@ -85,22 +92,22 @@ fn gain_run<S: Scalar>(ts: &mut [S], to: usize, from: usize, rows: usize)
     }
 }
 
-/// The run at `to` becomes d less the run before it at `less`.
+/// The run at `to` becomes d − the run at `before`, which lies before it.
 fn difference_run<S: Scalar>(
     ts: &mut [S],
     to: usize,
-    less: usize,
+    before: usize,
     rows: usize,
     d: &[S],
     from: usize,
 )
-    requires apart { ⌜ less + rows ≤ to ⌝ }
+    requires apart { ⌜ before + rows ≤ to ⌝ }
     requires fits { ⌜ to + rows ≤ length (now ts) ⌝ }
     requires source { ⌜ from + rows ≤ length (now d) ⌝ }
-    ensures { λ _. ⌜ RunChanged to rows (λ i v. means v ≡ ops .plus (at means ops (now (d .entry)) (from + i)) (ops .minus (at means ops (now (ts .entry)) (less + i)))) (now (ts .entry)) (now (ts .exit)) ⌝ }
+    ensures { λ _. ⌜ RunChanged to rows (λ i v. means v ≡ ops .plus (at means ops (now (d .entry)) (from + i)) (ops .minus (at means ops (now (ts .entry)) (before + i)))) (now (ts .entry)) (now (ts .exit)) ⌝ }
 {
     for i in 0..rows {
-        ts[to + i] = d[from + i].add(ts[less + i].neg());
+        ts[to + i] = less(d[from + i], ts[before + i]);
     }
 }
 
@@ -140,7 +147,7 @@ fn update_lane<S: Scalar>(
     requires lane { ⌜ lane < t .lanes ⌝ }
     requires within { ⌜ order + 2 < t .cols ⌝ }
     requires source { ⌜ from + t .rows ≤ length (now ds) ⌝ }
-    ensures { λ _. ⌜ Changed t (LaneBand lane 0 (order + 3)) (meant means (laneUpdate means ops t order (now (ds .entry)) from (now (ts .entry)))) (now (ts .entry)) (now (ts .exit)) ⌝ }
+    ensures { λ _. ⌜ Changed t (LaneBand lane 0 (order + 3)) (meant means (cellUpdatedBy means ops t order (now (ds .entry)) from (now (ts .entry)))) (now (ts .entry)) (now (ts .exit)) ⌝ }
 {
     let to = start_of(t, lane, order + 2);
     difference_run(ts, to, start_of(t, lane, order + 1), t.rows, ds, from);

@@ -6,7 +6,7 @@ use Rattle.std.proofs.shelf.Tests.{cases-eq}
 use Rattle.shape.specs.Changes.{LaneBand, LanesBand}
 use Rattle.shape.proofs.Cells.{lanes-none, lanes-all}
 use Rattle.differences.proofs.Pieces.{lane-more}
-use Rattle.differences.proofs.ProductLaws.{product-kept}
+use Rattle.differences.proofs.MulColsLaws.{multiplied-kept}
 use Rattle.differences.proofs.multiply.multiply_lanes.Needs as need
 
 pub loop-lane-holds : need.loop-lane-holds
@@ -24,7 +24,7 @@ loop-lane-again g c =
     let old = c .args .ts .now in
     let cur = c .loop-lane .ts in
     lane-more t n 0 (m .size) _ _ old cur (c .multiply-lane .last .ts)
-    (λ j i v w low high q. q ∙ product-kept (s .means) (s .ops) t m (c .args .numbers .now) (LanesBand n 0 (m .size)) _ old cur (c .pre .fits) (c .loop-lane .kept .ts) (c .pre .within) (c .loop-lane .inv) n j i w (omega arith) (λ l less x. omega arith))
+    (λ j i v w low high q. q ∙ multiplied-kept (s .means) (s .ops) t m (c .args .numbers .now) (LanesBand n 0 (m .size)) _ old cur (c .pre .fits) (c .loop-lane .kept .ts) (c .pre .within) (c .loop-lane .inv) n j i w (omega arith) (λ l less x. omega arith))
     (c .loop-lane .inv)
     (c .multiply-lane .ensures)
 

@@ -7,7 +7,7 @@ use Rattle.scalar.specs.Sums.{sum}
 use Rattle.scalar.proofs.Stored.{at-read}
 use Rattle.shape.proofs.Blocks.{block-fits}
 use Rattle.differences.specs.Matrices.{entryOf}
-use Rattle.differences.specs.Tiles.{stagedRow}
+use Rattle.product.specs.Results.{runRow}
 use Rattle.differences.proofs.RowLaws.{sum-more, multiplied-in}
 use Rattle.differences.proofs.tile.dot.Needs as need
 
@@ -17,13 +17,13 @@ loop-l-again g c =
     let l = c .loop-l .l in
     let b = block-fits l (c .args .m .size) (c .args .height) (c .loop-l-test .taken) in
     let x = at-read (s .means) (s .ops) (c .args .staged .now) (l * c .args .height + c .args .r) (c .index-staged-l .result) (omega arith) (c .index-staged-l .is) in
-    let more = sum-more (s .ops) (s .ops .zero) (λ i. s .ops .times (stagedRow (s .means) (s .ops) (c .args .staged .now) (c .args .height) (c .args .r) i) (entryOf (s .ops) (c .args .m) (map (s .means) (c .args .numbers .now)) (c .args .j) i)) l in
+    let more = sum-more (s .ops) (s .ops .zero) (λ i. s .ops .times (runRow (s .means) (s .ops) (c .args .staged .now) (c .args .height) (c .args .r) i) (entryOf (s .ops) (c .args .m) (map (s .means) (c .args .numbers .now)) (c .args .j) i)) l in
     cc
 
 pub returns : need.returns
 returns g c =
     let s = g .S·Scalar in
-    let row = stagedRow (s .means) (s .ops) (c .args .staged .now) (c .args .height) (c .args .r) in
+    let row = runRow (s .means) (s .ops) (c .args .staged .now) (c .args .height) (c .args .r) in
     let m = entryOf (s .ops) (c .args .m) (map (s .means) (c .args .numbers .now)) in
     let end : c .loop-l .l ≡ c .args .m .size = omega arith in
     c .loop-l .inv

@@ -6,17 +6,17 @@ use native.Mathlib.Nat.{mul-le-mul-left}
 use lib.ListN.{length}
 use Rattle.std.proofs.shelf.Tests.{cases-lt}
 use Rattle.shape.proofs.Cells.{changed-none, changed-more, changed-as}
-use Rattle.differences.specs.Products.{ProductLawful}
+use Rattle.differences.specs.MulCols.{MulColsLawful}
 use Rattle.differences.specs.Tiles.{InTile, RowsAbove}
 use Rattle.differences.specs.declared.tile.Tile.{Tile}
-use Rattle.differences.proofs.ProductLaws.{product-kept}
+use Rattle.differences.proofs.MulColsLaws.{multiplied-kept}
 use Rattle.differences.proofs.tile.multiply_lane.Needs as need
 
 pub multiply-tile-requires : need.multiply-tile-requires
 multiply-tile-requires g c κs =
     let k = c .args .m .size in
     let low : k * c .min-height .result ≤ k * c .tallest-tall .result = mul-le-mul-left k (omega arith) in
-    let law : ProductLawful (c .args .t) (length (c .loop-row .ts)) (c .args .m) (length (c .args .numbers .now)) (length (c .loop-row .work)) =
+    let law : MulColsLawful (c .args .t) (length (c .loop-row .ts)) (c .args .m) (length (c .args .numbers .now)) (length (c .loop-row .work)) =
     rw (c .loop-row .kept .ts, c .loop-row .kept .work) (c .pre .law) in
     record { law = law; tile = record { lane = c .pre .lane; some = omega arith; rows = omega arith }; room = omega arith }
 
@@ -39,7 +39,7 @@ loop-row-again g c =
     (λ b j i w h. elim (cases-lt i n) [ inl above ↦ inr ((λ x. omega arith), (h .0, above, h .2)) | inr from ↦ inl (h .0, from, h .1, h .2) ])
     (λ b j i h. (h .0, omega arith, h .2))
     (λ b j i w h. (h .0, h .2, h .3))
-    (λ b j i v w h q. q ∙ product-kept (s .means) (s .ops) t m (c .args .numbers .now) (RowsAbove lane n k) _ old cur (c .pre .law .fits) (c .loop-row .kept .ts) (c .pre .law .within) (c .loop-row .inv) b j i w (h .3) (λ l less x. omega arith))
+    (λ b j i v w h q. q ∙ multiplied-kept (s .means) (s .ops) t m (c .args .numbers .now) (RowsAbove lane n k) _ old cur (c .pre .law .fits) (c .loop-row .kept .ts) (c .pre .law .within) (c .loop-row .inv) b j i w (h .3) (λ l less x. omega arith))
     (c .loop-row .inv)
     (c .multiply-tile .ensures)
 

@@ -9,8 +9,9 @@ use Rattle.shape.specs.Shapes.{cell}
 use Rattle.shape.proofs.Blocks.{cell-fits, block-fits}
 use Rattle.shape.proofs.Cells.{changed-as}
 use Rattle.differences.specs.Matrices.{entryOf}
-use Rattle.differences.specs.Products.{rowOf}
-use Rattle.differences.specs.Tiles.{InTile, stagedRow}
+use Rattle.product.specs.Results.{rowOf}
+use Rattle.differences.specs.Tiles.{InTile}
+use Rattle.product.specs.Results.{runRow}
 use Rattle.differences.proofs.RowLaws.{multiplied-cong}
 use Rattle.differences.proofs.tile.multiply_tile.Needs as need
 
@@ -28,7 +29,7 @@ returns g c =
     changed-as t (InTile tile k) (InTile tile k) _ _ old (c .write-tile .last .ts)
     (λ b j i w h. h) (λ b j i w h. h)
     (λ b j i v w h q.
-    q ∙ multiplied-cong (s .ops) (stagedRow (s .means) (s .ops) work (tile .height) (i - tile .row)) (rowOf (s .means) (s .ops) t old b i) k (entryOf (s .ops) (c .args .m) (map (s .means) (c .args .numbers .now))) j (h .3)
+    q ∙ multiplied-cong (s .ops) (runRow (s .means) (s .ops) work (tile .height) (i - tile .row)) (rowOf (s .means) (s .ops) t old b i) k (entryOf (s .ops) (c .args .m) (map (s .means) (c .args .numbers .now))) j (h .3)
     (λ l n.
     let back : tile .row + (i - tile .row) ≡ i = omega arith in
     let fits = cell-fits t (length old) b l i (c .pre .law .fits) (record { lane = w .lane; col = omega arith; row = w .row }) in

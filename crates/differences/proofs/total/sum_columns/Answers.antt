@@ -9,7 +9,7 @@ use Rattle.shape.specs.Changes.{InColumn}
 use Rattle.shape.proofs.Cells.{changed-as}
 use Rattle.product.specs.Rows.{summed}
 use Rattle.differences.specs.Transposes.{TransposeLawful, rowFor}
-use Rattle.differences.proofs.Accepted.{sum-accepted}
+use Rattle.differences.proofs.Acceptance.{sum-accepted}
 use Rattle.differences.proofs.TransposeLaws.{summed-ones}
 use Rattle.differences.proofs.total.sum_columns.Needs as need
 

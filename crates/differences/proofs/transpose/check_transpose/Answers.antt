@@ -1,5 +1,5 @@
 use mathlib.Core.Path.{sym, _∙_}
-use Rattle.differences.proofs.Accepted.{transpose-passed}
+use Rattle.differences.proofs.Acceptance.{transpose-passed}
 use Rattle.differences.proofs.transpose.check_transpose.Needs as need
 
 pub returns : need.returns

@@ -2,7 +2,7 @@ use mathlib.Core.Path.{_≡_, refl, _∙_}
 use Prim.Native.Nat.{ℕ, _+_}
 use native.Mathlib.Omega.{arith}
 use Rattle.scalar.specs.Ops.{Ring}
-use Rattle.differences.specs.Products.{rowOf}
+use Rattle.product.specs.Results.{rowOf}
 use Rattle.differences.specs.Transposes.{rowFor}
 use Rattle.differences.proofs.TransposeLaws.{transposed-sums, transposed-negated, transposed-cleared, ones-sum}
 use Rattle.differences.proofs.transpose.transpose_lanes.Needs as need

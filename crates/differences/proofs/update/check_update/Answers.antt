@@ -1,5 +1,5 @@
 use mathlib.Core.Path.{sym, _∙_}
-use Rattle.differences.proofs.Accepted.{update-passed}
+use Rattle.differences.proofs.Acceptance.{update-passed}
 use Rattle.differences.proofs.update.check_update.Needs as need
 
 pub returns : need.returns

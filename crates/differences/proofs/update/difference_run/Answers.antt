@@ -14,7 +14,7 @@ loop-i-again g c =
     let s = g .S·Scalar in
     let i = c .loop-i .i in
     let new = at-read (s .means) (s .ops) (c .args .d .now) (c .args .from + i) (c .index-d-from .result) (omega arith) (c .index-d-from .is) in
-    let old = run-read (s .means) (s .ops) (c .args .to) i _ (c .args .ts .now) (c .loop-i .ts) (c .args .less + i) (c .index-ts-less .result) (c .loop-i .kept .ts) (omega arith) (c .loop-i .inv) (inl (omega arith)) (c .index-ts-less .is) in
+    let old = run-read (s .means) (s .ops) (c .args .to) i _ (c .args .ts .now) (c .loop-i .ts) (c .args .before + i) (c .index-ts-before .result) (c .loop-i .kept .ts) (omega arith) (c .loop-i .inv) (inl (omega arith)) (c .index-ts-before .is) in
     run-more (c .args .to) i _ _ (c .loop-i .ts) _ (c .loop-i .inv) (omega arith) (cc)
 
 pub returns : need.returns

@@ -10,7 +10,7 @@ use Rattle.shape.specs.Shapes.{cell}
 use Rattle.shape.specs.Changes.{LaneBand}
 use Rattle.shape.proofs.Blocks.{band-fits}
 use Rattle.shape.proofs.Cells.{changed-more}
-use Rattle.differences.specs.Updates.{accumulation}
+use Rattle.differences.specs.Updates.{cellAccumulated}
 use Rattle.differences.proofs.Pieces.{start-next, column-changed}
 use Rattle.differences.proofs.UpdateLaws.{gained-means}
 use Rattle.differences.proofs.update.gain_column.Needs as need
@@ -41,7 +41,7 @@ returns g c = λ n m old before next less len.
     (λ b l i v w h q.
     let column : l ≡ j = omega arith in
     let gained = gained-means (s .means) (s .ops) t lane n m old cur (rw len at (c .pre .fits)) len before j i next (omega arith) (record { lane = c .pre .lane; col = omega arith; row = w .row }) (omega arith) in
-    let here : s .means v ≡ accumulation (s .means) (s .ops) t n old lane j i =
+    let here : s .means v ≡ cellAccumulated (s .means) (s .ops) t n old lane j i =
     q ∙ ap (λ z. s .ops .plus (at (s .means) (s .ops) cur (z + i)) (at (s .means) (s .ops) cur (c .start-of-2 .result + i))) to
     ∙ ap (λ z. s .ops .plus (at (s .means) (s .ops) cur (cell t lane j i)) (at (s .means) (s .ops) cur (z + i))) from
     ∙ ap (λ z. s .ops .plus (at (s .means) (s .ops) cur (cell t lane j i)) (at (s .means) (s .ops) cur (cell t lane z i))) (sym next)

@@ -10,8 +10,8 @@ use Rattle.shape.specs.Shapes.{start, cell, In}
 use Rattle.shape.specs.Changes.{Changed, LaneBand, meant}
 use Rattle.shape.proofs.Blocks.{band-fits, cell-fits}
 use Rattle.shape.proofs.Cells.{changed-as, changed-more}
-use Rattle.differences.specs.Products.{rowOf}
-use Rattle.differences.specs.Updates.{laneUpdate}
+use Rattle.product.specs.Results.{rowOf}
+use Rattle.differences.specs.Updates.{cellUpdatedBy}
 use Rattle.differences.proofs.Pieces.{start-next, column-changed, rest-means}
 use Rattle.differences.proofs.RowLaws.{accumulated-updated, updated-last}
 use Rattle.differences.proofs.update.update_lane.Needs as need
@@ -43,7 +43,7 @@ returns g c =
     let ds = c .args .ds .now in
     let to : c .start-of-to .result ≡ start t lane (k + 2) = c .start-of-to .ensures (length old) (c .pre .fits) (omega arith) (c .pre .lane) in
     let less : c .start-of .result ≡ start t lane (k + 1) = c .start-of .ensures (length old) (c .pre .fits) (omega arith) (c .pre .lane) in
-    let new = laneUpdate (s .means) (s .ops) t k ds (c .args .from) old in
+    let new = cellUpdatedBy (s .means) (s .ops) t k ds (c .args .from) old in
     let before : (b i : ℕ) → b ≡ lane → at (s .means) (s .ops) old (c .start-of .result + i) ≡ rowOf (s .means) (s .ops) t old b i (k + 1) =
     λ b i e. ap (λ z. at (s .means) (s .ops) old (z + i)) less ∙ ap (λ z. at (s .means) (s .ops) old (cell t z (k + 1) i)) (sym e) in
     let last : Changed t (LaneBand lane (k + 2) 1) (meant (s .means) new) old mid =

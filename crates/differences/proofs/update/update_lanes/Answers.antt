@@ -7,7 +7,7 @@ use Rattle.shape.specs.Lanes.{laneFor}
 use Rattle.shape.specs.Changes.{LanesBand}
 use Rattle.shape.proofs.Blocks.{band-fits, lane-below}
 use Rattle.shape.proofs.Cells.{lanes-none, lanes-all}
-use Rattle.differences.specs.Products.{rowOf}
+use Rattle.product.specs.Results.{rowOf}
 use Rattle.differences.proofs.Pieces.{lane-more, rest-means}
 use Rattle.differences.proofs.RowLaws.{updated-cong}
 use Rattle.differences.proofs.update.update_lanes.Needs as need

@@ -13,16 +13,16 @@ use Rattle.shape.specs.declared.operand.TableShape.{TableShape}
 use Rattle.shape.proofs.Verdicts.{Clear, clear, fits-of, lawful-of}
 use Rattle.product.specs.Tests.{gemvColsTests}
 use Rattle.differences.specs.Matrices.{Enough}
-use Rattle.differences.specs.Products.{productTests, ProductLawful}
+use Rattle.differences.specs.MulCols.{mulColsTests, MulColsLawful}
 use Rattle.differences.specs.Updates.{updateTests, UpdateLawful}
 use Rattle.differences.specs.Transposes.{transposeTests, TransposeLawful}
 use Rattle.differences.specs.declared.matrix.Entries.{Entries}
 
 -- for numbers that are read as e says
-pub product-passed : (e : Entries) (t : TableShape) (len k count work : ℕ) → (count ≡ k * k → Enough e k count) → firstOf (productTests t len k count work) ≡ 0
-    → ProductLawful t len (record { size = k; entries = e }) count work
-product-passed e t len k count work enough passed =
-    let p = clear (productTests t len k count work) refl passed in
+pub mul-cols-passed : (e : Entries) (t : TableShape) (len k count work : ℕ) → (count ≡ k * k → Enough e k count) → firstOf (mulColsTests t len k count work) ≡ 0
+    → MulColsLawful t len (record { size = k; entries = e }) count work
+mul-cols-passed e t len k count work enough passed =
+    let p = clear (mulColsTests t len k count work) refl passed in
     let memory = or-parts (misfit t len) (ltb work 8) (p .1 .1 .0) in
     record {
       fits = fits-of t len (p .0) (p .1 .0) (memory .0);
@@ -86,12 +86,25 @@ pub sum-accepted : (t : TableShape) (len k : ℕ) (d : Column) (dl work : ℕ) �
 sum-accepted t len k d dl work law =
     let table = sound t len (law .fits) in
     let column = sound (d .of) dl (law .target .fits) in
-    clear-first (gemvColsTests t len 0 (k + 3) work d dl)
-    (or-from (noLanes t) (noLanes (d .of)) (table .lanes) (column .lanes)
-    , (or-from (tooLarge t) (tooLarge (d .of)) (table .large) (column .large)
-    , (or-from (misfit t len) (misfit (d .of) dl) (table .size) (column .size)
-    , (or-from (ltb (t .cols) (k + 3)) _ (le-ltb (t .cols) (k + 3) (omega (arith, law .within))) (or-from (ltb (k + 3) 0) (noColumn d) (le-ltb (k + 3) 0 (omega arith)) (lt-leb (d .of .cols) (d .col) (law .target .within)))
-    , (le-ltb 8 (k + 3 - 0) (omega (arith, law .few))
-    , (le-ltb work (k + 3 - 0) (omega (arith, law .few, law .room))
-    , (not-from-true _ (eq-eqb (t .rows) (d .of .rows) (law .rows))
-    , (law .lanes, tt))))))))
+    clear-first (gemvColsTests t len 0 (k + 3) work d dl) (
+      or-from (noLanes t) (noLanes (d .of)) (table .lanes) (column .lanes),
+      (
+        or-from (tooLarge t) (tooLarge (d .of)) (table .large) (column .large),
+        (
+          or-from (misfit t len) (misfit (d .of) dl) (table .size) (column .size),
+          (
+            or-from (ltb (t .cols) (k + 3)) _ (le-ltb (t .cols) (k + 3) (omega (arith, law .within))) (or-from (ltb (k + 3) 0) (noColumn d) (le-ltb (k + 3) 0 (omega arith)) (lt-leb (d .of .cols) (d .col) (law .target .within))),
+            (
+              le-ltb 8 (k + 3 - 0) (omega (arith, law .few)),
+              (
+                le-ltb work (k + 3 - 0) (omega (arith, law .few, law .room)),
+                (
+                  not-from-true _ (eq-eqb (t .rows) (d .of .rows) (law .rows)),
+                  (law .lanes, tt),
+                ),
+              ),
+            ),
+          ),
+        ),
+      ),
+    )

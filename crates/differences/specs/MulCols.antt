@@ -4,22 +4,18 @@ use mathlib.Core.List.{List, [], _∷_, map}
 use Prim.Native.Nat.{ℕ, _*_, _≤_}
 use lib.Dec.{eqb, ltb}
 use Rattle.scalar.specs.Ops.{Ops}
-use Rattle.scalar.specs.Sums.{at}
-use Rattle.shape.specs.Shapes.{cell, noLanes, tooLarge, misfit, Fits}
+use Rattle.shape.specs.Shapes.{noLanes, tooLarge, misfit, Fits}
 use Rattle.shape.specs.Changes.{Changed, meant, InBand}
 use Rattle.shape.specs.declared.operand.TableShape.{TableShape}
+use Rattle.product.specs.Results.{rowOf}
 use Rattle.differences.specs.Rows.{multiplied}
 use Rattle.differences.specs.Matrices.{Small, entryOf}
 use Rattle.differences.specs.declared.matrix.Entries.the-variants.{ByRows, ByColumns}
 use Rattle.differences.specs.declared.matrix.Matrix.{Matrix}
 
--- column l in row i of lane b of a table in a memory
-abbrev pub rowOf : {S M : Type 0} → (S → M) → Ops M → TableShape → List S → ℕ → ℕ → ℕ → M
-rowOf means o t mem b i l = at means o mem (cell t b l i)
-
 -- k columns, `count` numbers, `work` scalars of work memory
-abbrev pub productTests : TableShape → ℕ → ℕ → ℕ → ℕ → List (ℕ × Bool)
-productTests t len k count work =
+abbrev pub mulColsTests : TableShape → ℕ → ℕ → ℕ → ℕ → List (ℕ × Bool)
+mulColsTests t len k count work =
     (1, noLanes t)
     ∷ (2, tooLarge t)
     ∷ (3, misfit t len || ltb work 8)
@@ -34,7 +30,7 @@ byRows k = record { size = k; entries = ByRows }
 abbrev pub byColumns : ℕ → Matrix
 byColumns k = record { size = k; entries = ByColumns }
 
-pub record ProductLawful (t : TableShape) (len : ℕ) (m : Matrix) (count work : ℕ) : Type 0 where
+pub record MulColsLawful (t : TableShape) (len : ℕ) (m : Matrix) (count work : ℕ) : Type 0 where
   pub fits : Fits t len
   pub room : 8 ≤ work
   pub within : m .size ≤ t .cols
@@ -45,5 +41,5 @@ abbrev pub Multiplied : {S M : Type 0} → (S → M) → Ops M → TableShape �
 Multiplied means o t k m old cur = Changed t (InBand 0 k) (meant means (λ b j i. multiplied o (rowOf means o t old b i) k m j)) old cur
 
 -- the same as a function of the cell
-abbrev pub product : {S M : Type 0} → (S → M) → Ops M → TableShape → Matrix → List S → List S → ℕ → ℕ → ℕ → M
-product means o t m numbers old b j i = multiplied o (rowOf means o t old b i) (m .size) (entryOf o m (map means numbers)) j
+abbrev pub cellMultiplied : {S M : Type 0} → (S → M) → Ops M → TableShape → Matrix → List S → List S → ℕ → ℕ → ℕ → M
+cellMultiplied means o t m numbers old b j i = multiplied o (rowOf means o t old b i) (m .size) (entryOf o m (map means numbers)) j
