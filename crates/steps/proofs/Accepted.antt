@@ -1,0 +1,39 @@
+-- What acceptance tells of a step. Assumes nothing.
+use mathlib.Core.Path.{_≡_, refl}
+use mathlib.Core.Bool.{Bool, true, false, _&&_}
+use mathlib.Core.List.{List}
+use Prim.Native.Nat.{ℕ}
+use lib.ListN.{length}
+use Rattle.std.specs.declared.option.Option.{Option}
+use Rattle.std.specs.declared.option.Option.the-variants.{Some, None}
+use Rattle.std.proofs.shelf.Tests.{eqb-true, not-false, true≢false, false≢true}
+use Rattle.shape.proofs.Verdicts.{clear}
+use Rattle.steps.specs.declared.kind.Kind.{Kind}
+use Rattle.steps.specs.Steps.{Step, given, needed, listed, outside, miscounted, beyond, stepTests, fault}
+
+-- the columns lie within c, and a list that is read has an entry for each of r rows, each below r
+pub record Lawful (r c : ℕ) (k : Kind) (ks : List ℕ) : Type 0 where
+  pub inside : outside c k ≡ false
+  pub entries : listed k ≡ true → length ks ≡ r
+  pub below : listed k ≡ true → beyond r ks ≡ false
+
+counted : {A : Type 0} (n : ℕ) (xs : Option (List A)) → miscounted n xs ≡ false → length (given xs) ≡ n
+counted n None e = absurd (true≢false e)
+counted n (Some xs) e = eqb-true (length xs) n (not-false _ e)
+
+second : (a b : Bool) → (a && b) ≡ false → a ≡ true → b ≡ false
+second true b e h = e
+second false b e h = absurd (false≢true h)
+
+pub accepted : {M : Type 0} (r c : ℕ) (x : Step M) → fault r c x ≡ 0 → Lawful r c (x .kind) (given (x .list))
+accepted r c x e =
+    let p = clear (stepTests r c x) refl e in
+    record {
+      inside = p .0;
+      entries = λ h. counted r (x .list) (second (listed (x .kind)) (miscounted r (x .list)) (p .1 .1 .1 .0) h);
+      below = second (listed (x .kind)) (beyond r (given (x .list))) (p .1 .1 .1 .1 .0);
+    }
+
+-- and it has the numbers that it needs
+pub enough : {M : Type 0} (r c : ℕ) (x : Step M) → fault r c x ≡ 0 → length (given (x .numbers)) ≡ needed (x .kind)
+enough r c x e = counted (needed (x .kind)) (x .numbers) (clear (stepTests r c x) refl e .1 .1 .0)
