@@ -1,15 +1,20 @@
--- What acceptance tells of a step. Assumes nothing.
+-- What acceptance and refusal tell of a step. Assumes nothing.
 use mathlib.Core.Path.{_≡_, refl}
 use mathlib.Core.Bool.{Bool, true, false, _&&_}
 use mathlib.Core.List.{List}
 use Prim.Native.Nat.{ℕ}
+use lib.Dec.{eqb}
 use lib.ListN.{length}
 use Rattle.std.specs.declared.option.Option.{Option}
 use Rattle.std.specs.declared.option.Option.the-variants.{Some, None}
-use Rattle.std.proofs.shelf.Tests.{eqb-true, not-false, true≢false, false≢true}
+use Rattle.std.proofs.shelf.Tests.{eqb-true, eq-eqb, ne-eqb, not-false, cond-true, cond-false, true≢false, false≢true}
+use Rattle.scalar.specs.Ops.{Ops}
 use Rattle.shape.proofs.Verdicts.{clear}
 use Rattle.steps.specs.declared.kind.Kind.{Kind}
 use Rattle.steps.specs.Steps.{Step, given, needed, listed, outside, miscounted, beyond, stepTests, fault}
+use Rattle.steps.specs.States.{Lane}
+use Rattle.steps.specs.Actions.{forward, back}
+use Rattle.steps.specs.Runs.{taken, carried}
 
 -- the columns lie within c, and a list that is read has an entry for each of r rows, each below r
 pub record Lawful (r c : ℕ) (k : Kind) (ks : List ℕ) : Type 0 where
@@ -37,3 +42,16 @@ accepted r c x e =
 -- and it has the numbers that it needs
 pub enough : {M : Type 0} (r c : ℕ) (x : Step M) → fault r c x ≡ 0 → length (given (x .numbers)) ≡ needed (x .kind)
 enough r c x e = counted (needed (x .kind)) (x .numbers) (clear (stepTests r c x) refl e .1 .1 .0)
+
+module _ {M : Type 0} (o : Ops M) (r c : ℕ) (x : Step M) (s : Lane M) where
+  pub taken-accepted : fault r c x ≡ 0 → taken o r c x s ≡ forward o x s
+  taken-accepted e = cond-true (eqb (fault r c x) 0) (forward o x s) s (eq-eqb (fault r c x) 0 e)
+
+  pub taken-refused : (fault r c x ≡ 0 → ⊥) → taken o r c x s ≡ s
+  taken-refused never = cond-false (eqb (fault r c x) 0) (forward o x s) s (ne-eqb (fault r c x) 0 never)
+
+  pub carried-accepted : fault r c x ≡ 0 → carried o r c x s ≡ back o x s
+  carried-accepted e = cond-true (eqb (fault r c x) 0) (back o x s) s (eq-eqb (fault r c x) 0 e)
+
+  pub carried-refused : (fault r c x ≡ 0 → ⊥) → carried o r c x s ≡ s
+  carried-refused never = cond-false (eqb (fault r c x) 0) (back o x s) s (ne-eqb (fault r c x) 0 never)

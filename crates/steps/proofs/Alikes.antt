@@ -4,7 +4,8 @@ use mathlib.Core.List.{List, [], _∷_}
 use Prim.Native.Nat.{ℕ}
 use Rattle.scalar.specs.Ops.{Ops}
 use Rattle.steps.specs.States.{Lane, Alike, pairing}
-use Rattle.steps.specs.Steps.{Step, fault, forward, back}
+use Rattle.steps.specs.Steps.{Step, fault}
+use Rattle.steps.specs.Actions.{forward, back}
 use Rattle.steps.specs.Runs.{taken, carried, run, carry, Apart}
 use Rattle.steps.specs.Relations.{Keeps, Matched, AllMatched}
 use Rattle.steps.proofs.Kept.{forward-kept, back-kept, taken-kept, carried-kept, run-kept, carry-kept, pairing-kept}

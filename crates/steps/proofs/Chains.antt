@@ -5,8 +5,10 @@ use Prim.Native.Nat.{ℕ, _<_}
 use Rattle.scalar.specs.Ops.{Ops, Ring}
 use Rattle.steps.specs.States.{Lane, Alike, pairing}
 use Rattle.steps.specs.Steps.{Step, fault}
+use Rattle.steps.specs.Actions.{forward, back}
 use Rattle.steps.specs.Runs.{taken, carried, run, carry}
 use Rattle.steps.specs.Lanes.{StepForward, StepBack, RunForward, RunBack, RunsTransposed, RunsApart}
+use Rattle.steps.proofs.Accepted.{taken-accepted, taken-refused, carried-accepted, carried-refused}
 use Rattle.steps.proofs.Alikes.{alike-refl, alike-sym, alike-trans, run-alike, carry-alike, carried-alike, pairing-alike}
 use Rattle.steps.proofs.Transposes.{runs-transposed}
 
@@ -45,6 +47,32 @@ module _ {M H : Type 0} (o : Ops M) (r c n : ℕ) (lane : ℕ → H → Lane M) 
   back-answers (x ∷ xs) [] w z d = absurd d
   back-answers (x ∷ xs) (k ∷ ks) w z d = ap₂ _∷_ (d .2 .number) (back-answers xs ks w (d .0) (d .1))
 
+  -- ---- one step: accepted, it is what its kind makes of each lane; refused, it moves nothing
+
+  pub accepted-forward : (x : Step M) (s t : H) → fault r c x ≡ 0 → ((b : ℕ) → b < n → Alike r c (lane b t) (forward o x (lane b s))) → StepForward o r c n lane x 0 s t
+  accepted-forward x s t e h = record {
+    number = sym e;
+    lanes = λ b l. subst (λ (m : Lane M). Alike r c (lane b t) m) (sym (taken-accepted o r c x (lane b s) e)) (h b l);
+  }
+
+  pub refused-forward : (x : Step M) (k : ℕ) (s : H) → k ≡ fault r c x → (k ≡ 0 → ⊥) → StepForward o r c n lane x k s s
+  refused-forward x k s e never = record {
+    number = e;
+    lanes = λ b l. subst (λ (m : Lane M). Alike r c (lane b s) m) (sym (taken-refused o r c x (lane b s) (λ q. never (e ∙ q)))) (alike-refl r c (lane b s));
+  }
+
+  pub accepted-back : (x : Step M) (w z : H) → fault r c x ≡ 0 → ((b : ℕ) → b < n → Alike r c (lane b z) (back o x (lane b w))) → StepBack o r c n lane x 0 w z
+  accepted-back x w z e h = record {
+    number = sym e;
+    lanes = λ b l. subst (λ (m : Lane M). Alike r c (lane b z) m) (sym (carried-accepted o r c x (lane b w) e)) (h b l);
+  }
+
+  pub refused-back : (x : Step M) (k : ℕ) (w : H) → k ≡ fault r c x → (k ≡ 0 → ⊥) → StepBack o r c n lane x k w w
+  refused-back x k w e never = record {
+    number = e;
+    lanes = λ b l. subst (λ (m : Lane M). Alike r c (lane b w) m) (sym (carried-refused o r c x (lane b w) (λ q. never (e ∙ q)))) (alike-refl r c (lane b w));
+  }
+
   -- ---- one step more
 
   pub forward-more : (xs : List (Step M)) (ks : List ℕ) (x : Step M) (k : ℕ) (s t t′ : H) → RunForward o r c n lane xs ks s t → StepForward o r c n lane x k t t′
@@ -61,13 +89,15 @@ module _ {M H : Type 0} (o : Ops M) (r c n : ℕ) (lane : ℕ → H → Lane M) 
   -- ---- the laws
 
   pub chains-transposed : Ring o → RunsTransposed o r c n lane
-  chains-transposed 𝓡 xs ks js s t w z d e b l =
-      let first = lane b s in
-      let weights = lane b w in
-      pairing-alike o r c (lane b t) weights (run o r c xs first) weights (forward-lanes xs ks s t d b l) (alike-refl r c weights)
-      ∙ runs-transposed 𝓡 r c xs first weights
-      ∙ pairing-alike o r c first (carry o r c xs weights) first (lane b z) (alike-refl r c first)
-      (alike-sym r c (lane b z) (carry o r c xs weights) (back-lanes xs js w z e b l))
+  chains-transposed 𝓡 = record {
+    pairings = λ xs ks js s t w z d e b l.
+        let first = lane b s in
+        let weights = lane b w in
+        pairing-alike o r c (lane b t) weights (run o r c xs first) weights (forward-lanes xs ks s t d b l) (alike-refl r c weights)
+        ∙ runs-transposed 𝓡 .pairings r c xs first weights
+        ∙ pairing-alike o r c first (carry o r c xs weights) first (lane b z) (alike-refl r c first)
+        (alike-sym r c (lane b z) (carry o r c xs weights) (back-lanes xs js w z e b l));
+  }
 
   -- two lanes that come from alike ones by one function are alike
   joined : (f : Lane M → Lane M) (s s′ t t′ : Lane M) → Alike r c t (f s) → Alike r c t′ (f s′) → Alike r c (f s) (f s′) → Alike r c t t′

@@ -11,9 +11,11 @@ use Rattle.scalar.specs.Ops.{Ops}
 use Rattle.scalar.specs.Sums.{sum, sum-from}
 use Rattle.shape.specs.Refusals.{firstOf}
 use Rattle.vector.specs.Rows.{blend}
-use Rattle.steps.specs.Rows.{updated, risen, turned, multiplied, number, summed, spread}
+use Rattle.steps.specs.Rows.{updated, scanned, transposed, multiplied, number, summed, spread}
 use Rattle.steps.specs.States.{Lane, Related, columnsFrom, pairing}
-use Rattle.steps.specs.Steps.{Step, given, miscounted, needed, listed, outside, tooMany, beyond, stepTests, fault, put, scattered, scatteredBack, gatheredBack, row, nth, total, forwardBy, backBy, forward, back}
+use Rattle.steps.specs.Indices.{put, scattered, scatteredBack, gatheredBack}
+use Rattle.steps.specs.Steps.{Step, given, miscounted, needed, listed, outside, tooMany, beyond, stepTests, fault}
+use Rattle.steps.specs.Actions.{row, nth, total, forwardBy, backBy, forward, back}
 use Rattle.steps.specs.Runs.{taken, carried, run, carry}
 use Rattle.steps.specs.Relations.{Keeps, Matched, AllMatched}
 use Rattle.steps.specs.declared.kind.Kind.{Kind}
@@ -56,17 +58,17 @@ module _ {M N : Type 0} {o : Ops M} {p : Ops N} {R : M → N → Type 0} (σ : K
       (by-test (o .isZero b) (o .times a x) (o .plus (o .times a x) (o .times b y)) (p .times a′ x′) (p .plus (p .times a′ x′) (p .times b′ y′))
       (λ _. σ .times ha hx) (λ _. σ .plus (σ .times ha hx) (σ .times hb hy)))
 
-  risen-kept : (x : ℕ → M) (y : ℕ → N) (d : M) (e : N) (k t : ℕ) → Along (k + 2) x y → R d e → R (risen o x d k t) (risen p y e k t)
-  risen-kept x y d e k zero h q = σ .plus q (σ .minus (h (k + 1) (omega arith)))
-  risen-kept x y d e k (suc t) h q = σ .plus (h (k + 1 - t) (omega arith)) (risen-kept x y d e k t h q)
+  scanned-kept : (x : ℕ → M) (y : ℕ → N) (d : M) (e : N) (k t : ℕ) → Along (k + 2) x y → R d e → R (scanned o x d k t) (scanned p y e k t)
+  scanned-kept x y d e k zero h q = σ .plus q (σ .minus (h (k + 1) (omega arith)))
+  scanned-kept x y d e k (suc t) h q = σ .plus (h (k + 1 - t) (omega arith)) (scanned-kept x y d e k t h q)
 
   updated-kept : (x : ℕ → M) (y : ℕ → N) (d : M) (e : N) (k c : ℕ) → k + 2 < c → Along c x y → R d e → Along c (updated o x d k) (updated p y e k)
   updated-kept x y d e k c h s q j b =
-      by-test (leb j (k + 2)) (risen o x d k (k + 2 - j)) (x j) (risen p y e k (k + 2 - j)) (y j)
-      (λ _. risen-kept x y d e k (k + 2 - j) (λ l g. s l (omega arith)) q) (λ _. s j b)
+      by-test (leb j (k + 2)) (scanned o x d k (k + 2 - j)) (x j) (scanned p y e k (k + 2 - j)) (y j)
+      (λ _. scanned-kept x y d e k (k + 2 - j) (λ l g. s l (omega arith)) q) (λ _. s j b)
 
-  turned-kept : (k j l : ℕ) → R (turned o k j l) (turned p k j l)
-  turned-kept k j l =
+  transposed-kept : (k j l : ℕ) → R (transposed o k j l) (transposed p k j l)
+  transposed-kept k j l =
       by-test (leb j k) _ _ _ _
       (λ _. by-test (leb l j) (o .one) (o .zero) (p .one) (p .zero) (λ _. σ .one) (λ _. σ .zero))
       (λ _. by-test (eqb j (k + 1) && eqb l (k + 2)) (o .minus (o .one)) (o .zero) (p .minus (p .one)) (p .zero) (λ _. σ .minus (σ .one)) (λ _. σ .zero))
@@ -182,7 +184,7 @@ module _ {M N : Type 0} {o : Ops M} {p : Ops N} {R : M → N → Type 0} (σ : K
     back-by-kept (Update k) a s t h =
         let inside = a .inside in
         record {
-          table = λ j i b d. multiplied-kept (row s i) (row t i) (k + 3) c (turned o k) (turned p k) (grind (arith, tells)) (turned-kept k) (λ l g. h .table l i g d) j b;
+          table = λ j i b d. multiplied-kept (row s i) (row t i) (k + 3) c (transposed o k) (transposed p k) (grind (arith, tells)) (transposed-kept k) (λ l g. h .table l i g d) j b;
           first = λ i d. σ .plus (h .first i d) (total-kept (row s i) (row t i) (k + 3) c (grind (arith, tells)) (λ l g. h .table l i g d));
           second = h .second;
         }

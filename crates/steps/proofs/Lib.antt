@@ -6,5 +6,6 @@ pub mod Updates
 pub mod Accepted
 pub mod Transposes
 pub mod Kept
+pub mod Mapped
 pub mod Alikes
 pub mod Chains

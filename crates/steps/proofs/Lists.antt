@@ -11,7 +11,8 @@ use Rattle.std.proofs.shelf.Ways.{tells}
 use Rattle.scalar.specs.Ops.{Ops, Ring}
 use Rattle.scalar.specs.Sums.{sum}
 use Rattle.scalar.proofs.RingLaws.{zero-plus, times-zero}
-use Rattle.steps.specs.Steps.{put, beyond, scattered, scatteredBack, gatheredBack}
+use Rattle.steps.specs.Indices.{put, scattered, scatteredBack, gatheredBack}
+use Rattle.steps.specs.Steps.{beyond}
 use Rattle.steps.proofs.Sums.{sum-same, plus-assoc, plus-comm, times-plus, sum-zero, sum-gain, sum-front, sorts}
 
 pub put-same : {A : Type 0} (f : ℕ → A) (k : ℕ) (x : A) → put f k x k ≡ x

@@ -10,7 +10,7 @@ use Rattle.scalar.specs.Sums.{sum, sum-from}
 use Rattle.scalar.proofs.RingLaws.{zero-plus, times-zero}
 use Rattle.vector.specs.Rows.{blend}
 use Rattle.steps.specs.Rows.{multiplied, summed, spread}
-use Rattle.steps.specs.Steps.{total}
+use Rattle.steps.specs.Actions.{total}
 use Rattle.steps.proofs.Sums.{sum-same, plus-assoc, times-plus, plus-times, zero-times, one-times, from-sum, sum-times, times-sum, sum-swap, sum-gain, sum-front, sum-below, sorts, ring, times-assoc, times-comm, times-left}
 
 module _ {M : Type 0} (o : Ops M) where

@@ -12,7 +12,9 @@ use Rattle.scalar.specs.Sums.{sum}
 use Rattle.scalar.proofs.RingLaws.{times-zero}
 use Rattle.steps.specs.Rows.{number}
 use Rattle.steps.specs.States.{Lane, pairing}
-use Rattle.steps.specs.Steps.{Step, given, fault, put, row, nth, forwardBy, backBy, forward, back}
+use Rattle.steps.specs.Indices.{put}
+use Rattle.steps.specs.Steps.{Step, given, fault}
+use Rattle.steps.specs.Actions.{row, nth, forwardBy, backBy, forward, back}
 use Rattle.steps.specs.Runs.{taken, carried, run, carry, Transposed}
 use Rattle.steps.specs.declared.kind.Kind.{Kind}
 use Rattle.steps.specs.declared.kind.Kind.the-variants.{Update, Cols, SumCol, AddCol, SetCol, Axpy, Copy, Scale, Gather, Scatter}
@@ -113,6 +115,9 @@ module _ {M : Type 0} {o : Ops M} (𝓡 : Ring o) where
       by false e = refl
 
   -- any run
+  run-transposed : (r c : ℕ) (xs : List (Step M)) (s w : Lane M) → pairing o r c (run o r c xs s) w ≡ pairing o r c s (carry o r c xs w)
+  run-transposed r c [] s w = refl
+  run-transposed r c (x ∷ xs) s w = run-transposed r c xs (taken o r c x s) w ∙ step-transposed r c x s (carry o r c xs w)
+
   pub runs-transposed : Transposed o
-  runs-transposed r c [] s w = refl
-  runs-transposed r c (x ∷ xs) s w = runs-transposed r c xs (taken o r c x s) w ∙ step-transposed r c x s (carry o r c xs w)
+  runs-transposed = record { pairings = run-transposed }

@@ -10,8 +10,8 @@ use Rattle.std.proofs.shelf.Ways.{tells}
 use Rattle.scalar.specs.Ops.{Ops, Ring}
 use Rattle.scalar.specs.Sums.{sum}
 use Rattle.scalar.proofs.RingLaws.{zero-plus, times-zero}
-use Rattle.steps.specs.Rows.{updated, risen, turned, multiplied}
-use Rattle.steps.specs.Steps.{total}
+use Rattle.steps.specs.Rows.{updated, scanned, transposed, multiplied}
+use Rattle.steps.specs.Actions.{total}
 use Rattle.steps.proofs.Sums.{sum-same, plus-assoc, times-plus, plus-times, zero-times, times-minus, sum-zero, sum-gain, sum-cut, sum-below, sorts, ring}
 use Rattle.steps.proofs.Products.{multiplied-inside, multiplied-past, total-sum}
 
@@ -24,18 +24,18 @@ module _ {M : Type 0} (o : Ops M) where
       let t : k + 2 - j ≡ suc (k + 1 - j) = omega arith in
       let q : k + 1 - (k + 1 - j) ≡ j = omega arith in
       let v : k + 2 - suc j ≡ k + 1 - j = omega arith in
-      ap (λ z. cond z (risen o x d k (k + 2 - j)) (x j)) a
-      ∙ ap (risen o x d k) t
-      ∙ ap (λ z. o .plus (x z) (risen o x d k (k + 1 - j))) q
-      ∙ ap (λ z. o .plus (x j) (risen o x d k z)) (sym v)
-      ∙ ap (λ z. o .plus (x j) (cond z (risen o x d k (k + 2 - suc j)) (x (suc j)))) (sym b)
+      ap (λ z. cond z (scanned o x d k (k + 2 - j)) (x j)) a
+      ∙ ap (scanned o x d k) t
+      ∙ ap (λ z. o .plus (x z) (scanned o x d k (k + 1 - j))) q
+      ∙ ap (λ z. o .plus (x j) (scanned o x d k z)) (sym v)
+      ∙ ap (λ z. o .plus (x j) (cond z (scanned o x d k (k + 2 - suc j)) (x (suc j)))) (sym b)
 
   updated-top : (x : ℕ → M) (d : M) (k : ℕ) → updated o x d k (suc (suc k)) ≡ o .plus d (o .minus (x (suc k)))
   updated-top x d k =
       let a : leb (suc (suc k)) (k + 2) ≡ true = grind (arith, tells) in
       let t : k + 2 - suc (suc k) ≡ 0 = omega arith in
-      ap (λ z. cond z (risen o x d k (k + 2 - suc (suc k))) (x (suc (suc k)))) a
-      ∙ ap (risen o x d k) t
+      ap (λ z. cond z (scanned o x d k (k + 2 - suc (suc k))) (x (suc (suc k)))) a
+      ∙ ap (scanned o x d k) t
       ∙ ap (λ z. o .plus d (o .minus (x z))) (add-one k)
 
   updated-past : (x : ℕ → M) (d : M) (k j : ℕ) → suc (suc (suc k)) ≤ j → updated o x d k j ≡ x j
@@ -112,19 +112,19 @@ module _ {M : Type 0} {o : Ops M} (𝓡 : Ring o) where
       ∙ sum-same o (o .zero) (λ l. e l ⊗ m l) e j (λ l g. ap (λ z. e l ⊗ z) (ones l g) ∙ 𝓡 .times-one (e l))
 
   -- column j at most k: the sum of the columns 0 to j
-  pub turned-low : (e : ℕ → M) (k j : ℕ) → j < suc k → multiplied o e (k + 3) (turned o k) j ≡ sum o e (suc j)
-  turned-low e k j h =
-      multiplied-inside o e (k + 3) (turned o k) j (omega arith)
-      ∙ ones-below e (turned o k j) (suc j) (k + 3) (omega arith) (λ l g. grind (arith, tells)) (λ l g. grind (arith, tells))
+  pub transposed-low : (e : ℕ → M) (k j : ℕ) → j < suc k → multiplied o e (k + 3) (transposed o k) j ≡ sum o e (suc j)
+  transposed-low e k j h =
+      multiplied-inside o e (k + 3) (transposed o k) j (omega arith)
+      ∙ ones-below e (transposed o k j) (suc j) (k + 3) (omega arith) (λ l g. grind (arith, tells)) (λ l g. grind (arith, tells))
 
   -- column k + 1: the negated column k + 2
-  pub turned-mid : (e : ℕ → M) (k : ℕ) → multiplied o e (k + 3) (turned o k) (suc k) ≡ o .minus (e (suc (suc k)))
-  turned-mid e k =
+  pub transposed-mid : (e : ℕ → M) (k : ℕ) → multiplied o e (k + 3) (transposed o k) (suc k) ≡ o .minus (e (suc (suc k)))
+  transposed-mid e k =
       let K = suc (suc k) in
-      let f : ℕ → M = λ l. e l ⊗ turned o k (suc k) l in
-      let none : (l : ℕ) → l ≢ suc (suc k) → turned o k (suc k) l ≡ o .zero = λ l g. grind (arith, tells) in
-      let here : turned o k (suc k) (suc (suc k)) ≡ o .minus (o .one) = grind (arith, tells) in
-      multiplied-inside o e (k + 3) (turned o k) (suc k) (omega arith)
+      let f : ℕ → M = λ l. e l ⊗ transposed o k (suc k) l in
+      let none : (l : ℕ) → l ≢ suc (suc k) → transposed o k (suc k) l ≡ o .zero = λ l g. grind (arith, tells) in
+      let here : transposed o k (suc k) (suc (suc k)) ≡ o .minus (o .one) = grind (arith, tells) in
+      multiplied-inside o e (k + 3) (transposed o k) (suc k) (omega arith)
       ∙ sum-gain 𝓡 f (λ l. o .zero) (o .minus (e K)) K (k + 3) (omega arith)
       (ap (λ z. e K ⊗ z) here ∙ times-minus 𝓡 (e K) (o .one) ∙ 𝓡 .times-one (o .minus (e K)) ∙ sym (zero-plus 𝓡 (o .minus (e K))))
       (λ l g. ap (λ z. e l ⊗ z) (none l g) ∙ times-zero 𝓡 (e l))
@@ -132,25 +132,25 @@ module _ {M : Type 0} {o : Ops M} (𝓡 : Ring o) where
       ∙ zero-plus 𝓡 (o .minus (e K))
 
   -- column k + 2: zero
-  pub turned-high : (e : ℕ → M) (k : ℕ) → multiplied o e (k + 3) (turned o k) (suc (suc k)) ≡ o .zero
-  turned-high e k =
-      multiplied-inside o e (k + 3) (turned o k) (suc (suc k)) (omega arith)
-      ∙ ones-below e (turned o k (suc (suc k))) 0 (k + 3) (omega arith) (λ l g. absurd (omega arith)) (λ l g. grind (arith, tells))
+  pub transposed-high : (e : ℕ → M) (k : ℕ) → multiplied o e (k + 3) (transposed o k) (suc (suc k)) ≡ o .zero
+  transposed-high e k =
+      multiplied-inside o e (k + 3) (transposed o k) (suc (suc k)) (omega arith)
+      ∙ ones-below e (transposed o k (suc (suc k))) 0 (k + 3) (omega arith) (λ l g. absurd (omega arith)) (λ l g. grind (arith, tells))
 
   -- ---- a row of the update
 
   pub update-row : (c k : ℕ) → k + 2 < c → (x e : ℕ → M) (d p R : M)
       → sum o (λ j. updated o x d k j ⊗ e j) c ⊕ (d ⊗ p ⊕ R)
-      ≡ sum o (λ j. x j ⊗ multiplied o e (k + 3) (turned o k) j) c ⊕ (d ⊗ (p ⊕ total o e (k + 3)) ⊕ R)
+      ≡ sum o (λ j. x j ⊗ multiplied o e (k + 3) (transposed o k) j) c ⊕ (d ⊗ (p ⊕ total o e (k + 3)) ⊕ R)
   update-row c k h x e d p R =
       let W = sum o e (suc (suc (suc k))) in
-      let E : ℕ → M = multiplied o e (k + 3) (turned o k) in
+      let E : ℕ → M = multiplied o e (k + 3) (transposed o k) in
       let S = sum o (λ j. x j ⊗ E j) c in
       let above : (j : ℕ) → suc (suc (suc k)) ≤ j → updated o x d k j ⊗ e j ≡ x j ⊗ E j =
-      λ j g. ap (λ z. z ⊗ e j) (updated-past o x d k j g) ∙ ap (λ z. x j ⊗ z) (sym (multiplied-past o e (k + 3) (turned o k) j (omega arith))) in
+      λ j g. ap (λ z. z ⊗ e j) (updated-past o x d k j g) ∙ ap (λ z. x j ⊗ z) (sym (multiplied-past o e (k + 3) (transposed o k) j (omega arith))) in
       let all : sum o (λ j. updated o x d k j ⊗ e j) c ≡ S ⊕ d ⊗ W =
       sum-below 𝓡 (λ j. updated o x d k j ⊗ e j) (λ j. x j ⊗ E j) (d ⊗ W) (suc (suc (suc k))) c (omega arith)
-      (update-sum x (updated o x d k) e E d k (updated-step o x d k) (updated-top o x d k) (turned-low e k) (turned-mid e k) (turned-high e k)) above in
+      (update-sum x (updated o x d k) e E d k (updated-step o x d k) (updated-top o x d k) (transposed-low e k) (transposed-mid e k) (transposed-high e k)) above in
       let w : total o e (k + 3) ≡ W = total-sum 𝓡 e (k + 3) ∙ ap (sum o e) (add-three k) in
       ap (λ z. z ⊕ (d ⊗ p ⊕ R)) all ∙ shift S (d ⊗ W) (d ⊗ p) R ∙ ap (λ z. S ⊕ (z ⊕ R)) (sym (times-plus 𝓡 d p W)) ∙ ap (λ z. S ⊕ (d ⊗ (p ⊕ z) ⊕ R)) (sym w)
     where

@@ -34,10 +34,9 @@ module _ {M H : Type 0} (o : Ops M) (r c n : ℕ) (lane : ℕ → H → Lane M) 
   RunBack (x ∷ xs) (k ∷ ks) w z = (m : H) × RunBack xs ks w m × StepBack x k m z
 
   -- in each lane, the last state paired with any weights gives what the first gives with the weights carried back
-  abbrev pub RunsTransposed : Type 0
-  RunsTransposed =
-      (xs : List (Step M)) (ks js : List ℕ) (s t w z : H) → RunForward xs ks s t → RunBack xs js w z
-      → (b : ℕ) → b < n → pairing o r c (lane b t) (lane b w) ≡ pairing o r c (lane b s) (lane b z)
+  pub record RunsTransposed : Type 0 where
+    pub pairings : (xs : List (Step M)) (ks js : List ℕ) (s t w z : H) → RunForward xs ks s t → RunBack xs js w z
+        → (b : ℕ) → b < n → pairing o r c (lane b t) (lane b w) ≡ pairing o r c (lane b s) (lane b z)
 
   -- what a lane holds after a run comes from that lane alone, and the refusals come from no lane
   pub record RunsApart : Type 0 where

@@ -1,10 +1,17 @@
 -- The same run over two scalars: what it takes that a relation of their meanings is kept. Assumes nothing.
 use mathlib.Core.Path.{_≡_}
 use mathlib.Core.Bool.{Bool}
-use mathlib.Core.List.{List, [], _∷_}
+use mathlib.Core.List.{List, [], _∷_, map}
 use Prim.Native.Nat.{ℕ}
+use Rattle.std.specs.declared.option.Option.{Option}
+use Rattle.std.specs.declared.option.Option.the-variants.{Some, None}
 use Rattle.scalar.specs.Ops.{Ops}
-use Rattle.steps.specs.Steps.{Step, given, miscounted, nth}
+use Rattle.steps.specs.Steps.{Step, given, miscounted}
+use Rattle.steps.specs.Actions.{nth}
+
+abbrev pub mapGiven : {A B : Type 0} → (A → B) → Option (List A) → Option (List B)
+mapGiven f None = None
+mapGiven f (Some xs) = Some (map f xs)
 
 -- the operations keep R
 pub record Keeps {M N : Type 0} (o : Ops M) (p : Ops N) (R : M → N → Type 0) : Type 0 where
@@ -29,3 +36,7 @@ module _ {M N : Type 0} (o : Ops M) (p : Ops N) (R : M → N → Type 0) where
   AllMatched [] (y ∷ ys) = ⊥
   AllMatched (x ∷ xs) [] = ⊥
   AllMatched (x ∷ xs) (y ∷ ys) = Matched x y × AllMatched xs ys
+
+-- a step with its numbers mapped
+abbrev pub mapped : {M N : Type 0} → (M → N) → Step M → Step N
+mapped f x = record { kind = x .kind; numbers = mapGiven f (x .numbers); list = x .list }

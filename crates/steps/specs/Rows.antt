@@ -18,16 +18,16 @@ module _ {M : Type 0} (o : Ops M) where
   a ⊗ b = o .times a b
 
   -- the difference update of the row x by d with the order k: the column t places below k + 2
-  abbrev pub risen : (ℕ → M) → M → ℕ → ℕ → M
-  risen x d k zero = d ⊕ o .minus (x (k + 1))
-  risen x d k (suc t) = x (k + 1 - t) ⊕ risen x d k t
+  abbrev pub scanned : (ℕ → M) → M → ℕ → ℕ → M
+  scanned x d k zero = d ⊕ o .minus (x (k + 1))
+  scanned x d k (suc t) = x (k + 1 - t) ⊕ scanned x d k t
 
   abbrev pub updated : (ℕ → M) → M → ℕ → ℕ → M
-  updated x d k j = cond (leb j (k + 2)) (risen x d k (k + 2 - j)) (x j)
+  updated x d k j = cond (leb j (k + 2)) (scanned x d k (k + 2 - j)) (x j)
 
   -- the matrix of its transpose: row j gives the new column j
-  abbrev pub turned : ℕ → ℕ → ℕ → M
-  turned k j l =
+  abbrev pub transposed : ℕ → ℕ → ℕ → M
+  transposed k j l =
       cond (leb j k) (cond (leb l j) (o .one) (o .zero)) (cond (eqb j (k + 1) && eqb l (k + 2)) (o .minus (o .one)) (o .zero))
 
   -- the first k columns of the row x times a matrix whose row j gives the new column j

@@ -6,7 +6,8 @@ use Prim.Native.Nat.{ℕ}
 use lib.Dec.{eqb}
 use Rattle.scalar.specs.Ops.{Ops}
 use Rattle.steps.specs.States.{Lane, Alike, pairing}
-use Rattle.steps.specs.Steps.{Step, fault, forward, back}
+use Rattle.steps.specs.Steps.{Step, fault}
+use Rattle.steps.specs.Actions.{forward, back}
 
 module _ {M : Type 0} (o : Ops M) (r c : ℕ) where
   -- a step on a state; a refused one leaves it as it was
@@ -28,9 +29,8 @@ module _ {M : Type 0} (o : Ops M) (r c : ℕ) where
 
 -- the backward run is the transpose of the forward run: the state at the end, paired with any weights,
 -- gives what the state at the beginning gives with the weights carried back
-abbrev pub Transposed : {M : Type 0} → Ops M → Type 0
-Transposed {M = M} o =
-    (r c : ℕ) (xs : List (Step M)) (s w : Lane M) → pairing o r c (run o r c xs s) w ≡ pairing o r c s (carry o r c xs w)
+pub record Transposed {M : Type 0} (o : Ops M) : Type 0 where
+  pub pairings : (r c : ℕ) (xs : List (Step M)) (s w : Lane M) → pairing o r c (run o r c xs s) w ≡ pairing o r c s (carry o r c xs w)
 
 -- lanes stay apart: states alike in a lane are alike there after every run, and so are weights carried back.
 -- Which steps are refused, and with which numbers, is `fault` of the steps and the shape: no entry comes into it.

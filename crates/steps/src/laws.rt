@@ -1,5 +1,5 @@
 //! The two laws of runs, stated for every scalar and as they stand for those of this library.
-ghost use lib.Ieee.{binary64, binary32};
+ghost use lib.Ieee.{binary64};
 ghost use Rattle.scalar.specs.Floats.{rounded};
 ghost use Rattle.scalar.specs.Modular.{wraps, residues};
 ghost use Rattle.scalar.specs.Pairs.{paired};
@@ -28,4 +28,32 @@ pub fn lanes_stay_apart<S: Scalar>() -> u8
     ensures { λ _. ⌜ Apart ops ⌝ }
 {
     0
+}
+
+/// Numbers modulo 2^64 are exact.
+pub fn wrap_runs_are_transposed() -> u8
+    ensures { λ _. ⌜ Transposed wraps ⌝ }
+{
+    runs_are_transposed::<Wrap>()
+}
+
+/// Numbers modulo 2^31 − 1 are exact.
+pub fn residue_runs_are_transposed() -> u8
+    ensures { λ _. ⌜ Transposed residues ⌝ }
+{
+    runs_are_transposed::<Residue>()
+}
+
+/// Pairs of a value and a slope are exact where the scalar below is.
+pub fn pair_runs_are_transposed() -> u8
+    ensures { λ _. ⌜ Transposed (paired residues) ⌝ }
+{
+    runs_are_transposed::<Pair<Residue>>()
+}
+
+/// Floats are not exact, and their lanes stay apart all the same.
+pub fn f64_lanes_stay_apart() -> u8
+    ensures { λ _. ⌜ Apart (rounded binary64) ⌝ }
+{
+    lanes_stay_apart::<f64>()
 }
