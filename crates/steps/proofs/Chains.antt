@@ -1,9 +1,9 @@
 -- The laws of runs on a memory of n lanes, from those of one lane. Assumes nothing.
-use mathlib.Core.Path.{_≡_, refl, sym, ap, ap₂, subst, _∙_}
+use mathlib.Core.Path.{_≡_, refl, sym, ap₂, subst, _∙_}
 use mathlib.Core.List.{List, [], _∷_, _++_, map}
 use Prim.Native.Nat.{ℕ, _<_}
 use Rattle.scalar.specs.Ops.{Ops, Ring}
-use Rattle.steps.specs.States.{Lane, Alike, pairing}
+use Rattle.steps.specs.States.{Lane, Alike}
 use Rattle.steps.specs.Steps.{Step, fault}
 use Rattle.steps.specs.Actions.{forward, back}
 use Rattle.steps.specs.Runs.{taken, carried, run, carry}

@@ -1,5 +1,5 @@
 -- A relation that the operations of two scalars keep is kept by every step, every run and the pairing. Assumes nothing.
-use mathlib.Core.Path.{_≡_, refl, sym, ap, subst, _∙_}
+use mathlib.Core.Path.{_≡_, refl, ap, subst, _∙_}
 use mathlib.Core.Bool.{Bool, true, false, cond, _&&_}
 use mathlib.Core.List.{List, [], _∷_}
 use Prim.Native.Nat.{ℕ, zero, suc, _+_, _-_, _*_, _<_, _≤_}
@@ -14,7 +14,7 @@ use Rattle.vector.specs.Rows.{blend}
 use Rattle.steps.specs.Rows.{updated, scanned, transposed, multiplied, number, summed, spread}
 use Rattle.steps.specs.States.{Lane, Related, columnsFrom, pairing}
 use Rattle.steps.specs.Indices.{put, scattered, scatteredBack, gatheredBack}
-use Rattle.steps.specs.Steps.{Step, given, miscounted, needed, listed, outside, tooMany, beyond, stepTests, fault}
+use Rattle.steps.specs.Steps.{Step, given, miscounted, needed, listed, outside, tooMany, beyond, fault}
 use Rattle.steps.specs.Actions.{row, nth, total, forwardBy, backBy, forward, back}
 use Rattle.steps.specs.Runs.{taken, carried, run, carry}
 use Rattle.steps.specs.Relations.{Keeps, Matched, AllMatched}

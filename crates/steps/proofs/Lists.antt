@@ -1,11 +1,11 @@
 -- One entry set or raised, and what a list of rows does to a sum of products. Assumes nothing.
 use mathlib.Core.Path.{_≡_, refl, sym, ap, _∙_}
 use mathlib.Core.Logic.{_≢_}
-use mathlib.Core.Bool.{Bool, true, false, cond, _||_}
-use mathlib.Core.List.{List, [], _∷_}
+use mathlib.Core.Bool.{true, false, cond}
+use mathlib.Core.List.{List, [], _∷_, _++_}
 use Prim.Native.Nat.{ℕ, zero, suc, _+_, _<_, _≤_}
 use native.Mathlib.Omega.{arith}
-use lib.Dec.{eqb, leb}
+use lib.Dec.{eqb}
 use lib.ListN.{length, getD}
 use Rattle.std.proofs.shelf.Ways.{tells}
 use Rattle.scalar.specs.Ops.{Ops, Ring}
@@ -26,6 +26,22 @@ pub index-below : (r : ℕ) (ks : List ℕ) (i : ℕ) → beyond r ks ≡ false 
 index-below r [] i b l = absurd (omega arith)
 index-below r (k ∷ ks) zero b l = grind (arith, tells)
 index-below r (k ∷ ks) (suc i) b l = index-below r ks i (grind (arith, tells)) (omega arith)
+
+-- ---- one entry more at the end of a list
+
+pub scattered-more : {A : Type 0} (ks : List ℕ) (k i : ℕ) (u v : ℕ → A) → scattered (ks ++ (k ∷ [])) i u v ≡ put (scattered ks i u v) k (u (i + length ks))
+scattered-more [] k i u v = let e : i ≡ i + 0 = omega arith in ap (λ m. put v k (u m)) e
+scattered-more (j ∷ ks) k i u v =
+    let e : suc i + length ks ≡ i + suc (length ks) = omega arith in
+    scattered-more ks k (suc i) u (put v j (u i)) ∙ ap (λ m. put (scattered ks (suc i) u (put v j (u i))) k (u m)) e
+
+pub gathered-back-more : {M : Type 0} (o : Ops M) (ks : List ℕ) (k i : ℕ) (p q : ℕ → M)
+    → gatheredBack o (ks ++ (k ∷ [])) i p q ≡ put (gatheredBack o ks i p q) k (o .plus (gatheredBack o ks i p q k) (p (i + length ks)))
+gathered-back-more o [] k i p q = let e : i ≡ i + 0 = omega arith in ap (λ m. put q k (o .plus (q k) (p m))) e
+gathered-back-more o (j ∷ ks) k i p q =
+    let e : suc i + length ks ≡ i + suc (length ks) = omega arith in
+    let g = gatheredBack o ks (suc i) p (put q j (o .plus (q j) (p i))) in
+    gathered-back-more o ks k (suc i) p (put q j (o .plus (q j) (p i))) ∙ ap (λ m. put g k (o .plus (g k) (p m))) e
 
 module _ {M : Type 0} {o : Ops M} (𝓡 : Ring o) where
   infixl 60 _⊕_

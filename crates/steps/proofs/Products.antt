@@ -11,7 +11,7 @@ use Rattle.scalar.proofs.RingLaws.{zero-plus, times-zero}
 use Rattle.vector.specs.Rows.{blend}
 use Rattle.steps.specs.Rows.{multiplied, summed, spread}
 use Rattle.steps.specs.Actions.{total}
-use Rattle.steps.proofs.Sums.{sum-same, plus-assoc, times-plus, plus-times, zero-times, one-times, from-sum, sum-times, times-sum, sum-swap, sum-gain, sum-front, sum-below, sorts, ring, times-assoc, times-comm, times-left}
+use Rattle.steps.proofs.Sums.{sum-same, plus-assoc, times-plus, plus-times, zero-times, one-times, from-sum, sum-times, times-sum, sum-swap, sum-gain, sum-front, sum-below, sorts, ring, times-assoc, times-comm}
 
 module _ {M : Type 0} (o : Ops M) where
   -- where b is zero, what was there is not read

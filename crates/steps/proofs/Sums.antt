@@ -7,7 +7,7 @@ use native.Mathlib.Omega.{arith}
 use Rattle.scalar.specs.Ops.{Ops, Ring}
 use Rattle.scalar.specs.Sums.{sum, sum-from}
 use Rattle.scalar.proofs.RingLaws as law
-use Rattle.scalar.proofs.RingLaws.{zero-plus, times-zero, plus-swap}
+use Rattle.scalar.proofs.RingLaws.{times-zero, plus-swap}
 
 module _ {M : Type 0} (o : Ops M) where
   pub sum-same : (a : M) (f g : ℕ → M) (n : ℕ) → ((k : ℕ) → k < n → f k ≡ g k) → sum-from o a f n ≡ sum-from o a g n

@@ -16,10 +16,11 @@ pub record Step (M : Type 0) : Type 0 where
   pub numbers : Option (List M)
   pub list : Option (List ℕ)
 
--- the count entries of an array from a place on
+-- `count` entries of an array from `place` on
 abbrev pub part : {A : Type 0} → ℕ → ℕ → List A → Option (List A)
 part place count xs = cond (leb (place + count) (length xs)) (Some (take count (drop place xs))) None
 
+-- what was given, nothing where it passes its array
 abbrev pub given : {A : Type 0} → Option (List A) → List A
 given None = []
 given (Some xs) = xs
@@ -88,6 +89,7 @@ abbrev pub beyond : ℕ → List ℕ → Bool
 beyond r [] = false
 beyond r (k ∷ ks) = leb r k || beyond r ks
 
+-- the tests of a step in their order
 abbrev pub stepTests : {M : Type 0} → ℕ → ℕ → Step M → List (ℕ × Bool)
 stepTests r c x =
     (4, outside c (x .kind))

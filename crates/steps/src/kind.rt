@@ -1,8 +1,7 @@
 //! The ten kinds of steps on a table D and its vectors u and v, and what a step of each kind asks for.
 //! Back, a step works on the weights E, p and q of D, u and v.
 ghost use mathlib.Core.Path.{_≡_};
-ghost use mathlib.Core.Bool.{Bool, false};
-ghost use Prim.Native.Nat.{ℕ};
+ghost use mathlib.Core.Bool.{cond};
 ghost use Rattle.steps.specs.Steps.{needed, listed, outside, tooMany};
 
 /// A kind with its columns. Its numbers a, b, M and x, in this order, and its list lie beside it.
@@ -62,9 +61,9 @@ impl Kind {
         }
     }
 
-    /// How many numbers a step needs, where its columns are not too many.
+    /// How many numbers a step needs; 0 where its columns are too many, so that no product wraps.
     pub fn needed(self) -> usize
-        ensures { λ r. ⌜ (tooMany self ≡ false → r ≡ needed self) ⌝ }
+        ensures { λ r. ⌜ r ≡ cond (tooMany self) 0 (needed self) ⌝ }
     {
         if self.too_many() {
             return 0;
