@@ -10,17 +10,18 @@ use Rattle.std.specs.declared.option.Option.the-variants.{Some, None}
 use Rattle.std.proofs.shelf.Tests.{eqb-true, eq-eqb, ne-eqb, not-false, cond-true, cond-false, true≢false, false≢true}
 use Rattle.scalar.specs.Ops.{Ops}
 use Rattle.shape.proofs.Verdicts.{clear}
+use Rattle.index.specs.Indices.{outside}
 use Rattle.steps.specs.declared.kind.Kind.{Kind}
-use Rattle.steps.specs.Steps.{Step, given, needed, listed, outside, miscounted, beyond, stepTests, fault}
+use Rattle.steps.specs.Steps.{Step, given, needed, listed, misplaced, miscounted, stepTests, fault}
 use Rattle.steps.specs.States.{Lane}
 use Rattle.steps.specs.Actions.{forward, back}
 use Rattle.steps.specs.Runs.{taken, carried}
 
 -- the columns lie within c, and a list that is read has an entry for each of r rows, each below r
 pub record Lawful (r c : ℕ) (k : Kind) (ks : List ℕ) : Type 0 where
-  pub inside : outside c k ≡ false
+  pub inside : misplaced c k ≡ false
   pub entries : listed k ≡ true → length ks ≡ r
-  pub below : listed k ≡ true → beyond r ks ≡ false
+  pub below : listed k ≡ true → outside r ks ≡ false
 
 counted : {A : Type 0} (n : ℕ) (xs : Option (List A)) → miscounted n xs ≡ false → length (given xs) ≡ n
 counted n None e = absurd (true≢false e)
@@ -36,7 +37,7 @@ accepted r c x e =
     record {
       inside = p .0;
       entries = λ h. counted r (x .list) (second (listed (x .kind)) (miscounted r (x .list)) (p .1 .1 .1 .0) h);
-      below = second (listed (x .kind)) (beyond r (given (x .list))) (p .1 .1 .1 .1 .0);
+      below = second (listed (x .kind)) (outside r (given (x .list))) (p .1 .1 .1 .1 .0);
     }
 
 -- and it has the numbers that it needs

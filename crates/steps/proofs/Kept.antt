@@ -11,29 +11,30 @@ use Rattle.scalar.specs.Ops.{Ops}
 use Rattle.scalar.specs.Sums.{sum, sum-from}
 use Rattle.shape.specs.Refusals.{firstOf}
 use Rattle.vector.specs.Rows.{blend}
+use Rattle.index.specs.Indices.{outside, settled}
+use Rattle.index.proofs.Tested.{inside-of}
 use Rattle.steps.specs.Rows.{updated, scanned, transposed, multiplied, number, summed, spread}
 use Rattle.steps.specs.States.{Lane, Related, columnsFrom, pairing}
-use Rattle.steps.specs.Indices.{put, scattered, scatteredBack, gatheredBack}
-use Rattle.steps.specs.Steps.{Step, given, miscounted, needed, listed, outside, tooMany, beyond, fault}
+use Rattle.steps.specs.Indices.{put, scatteredBack, gatheredBack}
+use Rattle.steps.specs.Steps.{Step, given, miscounted, needed, listed, misplaced, tooMany, fault}
 use Rattle.steps.specs.Actions.{row, nth, total, forwardBy, backBy, forward, back}
 use Rattle.steps.specs.Runs.{taken, carried, run, carry}
 use Rattle.steps.specs.Relations.{Keeps, Matched, AllMatched}
 use Rattle.steps.specs.declared.kind.Kind.{Kind}
 use Rattle.steps.specs.declared.kind.Kind.the-variants.{Update, Cols, SumCol, AddCol, SetCol, Axpy, Copy, Scale, Gather, Scatter}
 use Rattle.steps.proofs.Accepted.{Lawful, accepted}
-use Rattle.steps.proofs.Lists.{index-below}
 
 module _ {M N : Type 0} {o : Ops M} {p : Ops N} {R : M → N → Type 0} where
   -- matched steps are refused alike
   pub fault-matched : (r c : ℕ) (x : Step M) (y : Step N) → Matched o p R x y → fault r c x ≡ fault r c y
   fault-matched r c x y m =
       let tests : Kind → Bool → Bool → Bool → List (ℕ × Bool) = λ k few missing wrong.
-      (4, outside c k) ∷ (5, tooMany k) ∷ (6, few) ∷ (9, listed k && missing) ∷ (10, listed k && wrong) ∷ [] in
+      (4, misplaced c k) ∷ (5, tooMany k) ∷ (6, few) ∷ (9, listed k && missing) ∷ (10, listed k && wrong) ∷ [] in
       let missing = miscounted r (x .list) in
-      let wrong = beyond r (given (x .list)) in
+      let wrong = outside r (given (x .list)) in
       ap (λ k. firstOf (tests k (miscounted (needed (x .kind)) (x .numbers)) missing wrong)) (m .kind)
       ∙ ap (λ few. firstOf (tests (y .kind) few missing wrong)) (m .counts (needed (x .kind)) ∙ ap (λ k. miscounted (needed k) (y .numbers)) (m .kind))
-      ∙ ap (λ ks. firstOf (tests (y .kind) (miscounted (needed (y .kind)) (y .numbers)) (miscounted r ks) (beyond r (given ks)))) (m .list)
+      ∙ ap (λ ks. firstOf (tests (y .kind) (miscounted (needed (y .kind)) (y .numbers)) (miscounted r ks) (outside r (given ks)))) (m .list)
 
 module _ {M N : Type 0} {o : Ops M} {p : Ops N} {R : M → N → Type 0} (σ : Keeps o p R) where
   -- ---- rows
@@ -46,7 +47,7 @@ module _ {M N : Type 0} {o : Ops M} {p : Ops N} {R : M → N → Type 0} (σ : K
   by-test false x y v w g h = h refl
 
   put-kept : (n : ℕ) (g : ℕ → M) (h : ℕ → N) (k : ℕ) (x : M) (y : N) → Along n g h → R x y → Along n (put g k x) (put h k y)
-  put-kept n g h k x y s e l b = by-test (eqb l k) x (g l) y (h l) (λ _. e) (λ _. s l b)
+  put-kept n g h k x y s e l b = by-test (eqb k l) x (g l) y (h l) (λ _. e) (λ _. s l b)
 
   pub sum-kept : (a : M) (b : N) (g : ℕ → M) (h : ℕ → N) (n : ℕ) → R a b → Along n g h → R (sum-from o a g n) (sum-from p b h n)
   sum-kept a b g h zero e s = e
@@ -106,13 +107,13 @@ module _ {M N : Type 0} {o : Ops M} {p : Ops N} {R : M → N → Type 0} (σ : K
 
   -- ---- lists
 
-  scattered-kept : (r : ℕ) (ks : List ℕ) (i : ℕ) (u v : ℕ → M) (u′ v′ : ℕ → N) → i + length ks ≤ r → Along r u u′ → Along r v v′
-      → Along r (scattered ks i u v) (scattered ks i u′ v′)
-  scattered-kept r [] i u v u′ v′ b h g = g
-  scattered-kept r (k ∷ ks) i u v u′ v′ b h g =
-      scattered-kept r ks (suc i) u (put v k (u i)) u′ (put v′ k (u′ i)) (omega arith) h (put-kept r v v′ k (u i) (u′ i) g (h i (omega arith)))
+  settled-kept : (r : ℕ) (ks : List ℕ) (i : ℕ) (u v : ℕ → M) (u′ v′ : ℕ → N) → i + length ks ≤ r → Along r u u′ → Along r v v′
+      → Along r (λ k. settled ks i k u (v k)) (λ k. settled ks i k u′ (v′ k))
+  settled-kept r [] i u v u′ v′ b h g = g
+  settled-kept r (k ∷ ks) i u v u′ v′ b h g =
+      settled-kept r ks (suc i) u (put v k (u i)) u′ (put v′ k (u′ i)) (omega arith) h (put-kept r v v′ k (u i) (u′ i) g (h i (omega arith)))
 
-  scattered-back-kept : (r : ℕ) (ks : List ℕ) (i : ℕ) (u v : ℕ → M) (u′ v′ : ℕ → N) → i + length ks ≤ r → beyond r ks ≡ false → Along r u u′ → Along r v v′
+  scattered-back-kept : (r : ℕ) (ks : List ℕ) (i : ℕ) (u v : ℕ → M) (u′ v′ : ℕ → N) → i + length ks ≤ r → outside r ks ≡ false → Along r u u′ → Along r v v′
       → Along r (scatteredBack o ks i u v .0) (scatteredBack p ks i u′ v′ .0) × Along r (scatteredBack o ks i u v .1) (scatteredBack p ks i u′ v′ .1)
   scattered-back-kept r [] i u v u′ v′ b all h g = (h, g)
   scattered-back-kept r (k ∷ ks) i u v u′ v′ b all h g =
@@ -123,7 +124,7 @@ module _ {M N : Type 0} {o : Ops M} {p : Ops N} {R : M → N → Type 0} (σ : K
         put-kept r (w .1) (w′ .1) k (o .zero) (p .zero) (rest .1) (σ .zero),
       )
 
-  gathered-back-kept : (r : ℕ) (ks : List ℕ) (i : ℕ) (u v : ℕ → M) (u′ v′ : ℕ → N) → i + length ks ≤ r → beyond r ks ≡ false → Along r u u′ → Along r v v′
+  gathered-back-kept : (r : ℕ) (ks : List ℕ) (i : ℕ) (u v : ℕ → M) (u′ v′ : ℕ → N) → i + length ks ≤ r → outside r ks ≡ false → Along r u u′ → Along r v v′
       → Along r (gatheredBack o ks i u v) (gatheredBack p ks i u′ v′)
   gathered-back-kept r [] i u v u′ v′ b all h g = g
   gathered-back-kept r (k ∷ ks) i u v u′ v′ b all h g =
@@ -175,10 +176,10 @@ module _ {M N : Type 0} {o : Ops M} {p : Ops N} {R : M → N → Type 0} (σ : K
     forward-by-kept Scale a s t h = record { table = h .table; first = λ i d. σ .times (h .first i d) (hn 0); second = h .second }
     forward-by-kept Gather a s t h =
         let all = a .entries refl in
-        record { table = h .table; first = λ i d. h .second (getD ks i 0) (index-below r ks i (a .below refl) (omega arith)); second = h .second }
+        record { table = h .table; first = λ i d. h .second (getD ks i 0) (inside-of r ks (a .below refl) i (omega arith)); second = h .second }
     forward-by-kept Scatter a s t h =
         let all = a .entries refl in
-        record { table = h .table; first = h .first; second = scattered-kept r ks 0 (s .first) (s .second) (t .first) (t .second) (omega arith) (h .first) (h .second) }
+        record { table = h .table; first = h .first; second = settled-kept r ks 0 (s .first) (s .second) (t .first) (t .second) (omega arith) (h .first) (h .second) }
 
     back-by-kept : (k : Kind) → Lawful r c k ks → (s : Lane M) (t : Lane N) → Related R r c s t → Related R r c (backBy o k ms ks s) (backBy p k ns ks t)
     back-by-kept (Update k) a s t h =

@@ -20,7 +20,7 @@ use Rattle.steps.specs.declared.kind.Kind.the-variants.{Update, Cols, SumCol, 
 use Rattle.steps.proofs.Sums.{ring, times-plus}
 use Rattle.steps.proofs.Accepted.{Lawful, accepted}
 use Rattle.steps.proofs.Pairings.{tables, by-parts, by-rows}
-use Rattle.steps.proofs.Lists.{raised, replaced, scattered-sum, gather-sum}
+use Rattle.steps.proofs.Lists.{raised, replaced, settled-sum, gather-sum}
 use Rattle.steps.proofs.Products.{blend-plain, cols-row, sumcol-row}
 use Rattle.steps.proofs.Updates.{update-row}
 
@@ -98,7 +98,7 @@ module _ {M : Type 0} {o : Ops M} (𝓡 : Ring o) where
   kind-transposed r c Scatter ms ks h s w =
       let all = h .entries refl in
       by-parts 𝓡 r c (forwardBy o Scatter ms ks s) w
-      ∙ ap (λ z. tables 𝓡 r c s w ⊕ z) (scattered-sum 𝓡 r ks 0 (s .first) (s .second) (w .first) (w .second) (omega arith) (h .below refl))
+      ∙ ap (λ z. tables 𝓡 r c s w ⊕ z) (settled-sum 𝓡 r ks 0 (s .first) (s .second) (w .first) (w .second) (omega arith) (h .below refl))
       ∙ sym (by-parts 𝓡 r c s (backBy o Scatter ms ks w))
 
   -- an accepted step

@@ -4,8 +4,9 @@ use Prim.Native.Nat.{ℕ, _+_, _-_}
 use lib.ListN.{getD}
 use Rattle.scalar.specs.Ops.{Ops}
 use Rattle.vector.specs.Rows.{blend}
+use Rattle.index.specs.Indices.{settled}
 use Rattle.steps.specs.Rows.{updated, transposed, multiplied, number, summed, spread}
-use Rattle.steps.specs.Indices.{put, scattered, scatteredBack, gatheredBack}
+use Rattle.steps.specs.Indices.{put, scatteredBack, gatheredBack}
 use Rattle.steps.specs.States.{Lane}
 use Rattle.steps.specs.Steps.{Step, given}
 use Rattle.steps.specs.declared.kind.Kind.{Kind}
@@ -54,7 +55,7 @@ module _ {M : Type 0} (o : Ops M) where
   forwardBy Copy ms ks s = secondBy s (s .first)
   forwardBy Scale ms ks s = firstBy s (λ i. s .first i ⊗ nth ms 0)
   forwardBy Gather ms ks s = firstBy s (λ i. s .second (getD ks i 0))
-  forwardBy Scatter ms ks s = secondBy s (scattered ks 0 (s .first) (s .second))
+  forwardBy Scatter ms ks s = secondBy s (λ k. settled ks 0 k (s .first) (s .second k))
 
   -- and on weights: the transpose
   abbrev pub backBy : Kind → List M → List ℕ → Lane M → Lane M

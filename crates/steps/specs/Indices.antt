@@ -1,4 +1,4 @@
--- Lists of rows: what an indexed copy leaves in a vector, and in weights on its way back. Assumes nothing.
+-- Lists of rows: what an indexed copy leaves of weights on its way back. Assumes nothing.
 use mathlib.Core.Bool.{cond}
 use mathlib.Core.List.{List, [], _∷_}
 use Prim.Native.Nat.{ℕ, suc}
@@ -7,12 +7,7 @@ use Rattle.scalar.specs.Ops.{Ops}
 
 -- f with x at the place k
 abbrev pub put : {A : Type 0} → (ℕ → A) → ℕ → A → ℕ → A
-put f k x l = cond (eqb l k) x (f l)
-
--- v after each entry of the list, from the i-th on, took its row of u
-abbrev pub scattered : {A : Type 0} → List ℕ → ℕ → (ℕ → A) → (ℕ → A) → ℕ → A
-scattered [] i u v = v
-scattered (k ∷ ks) i u v = scattered ks (suc i) u (put v k (u i))
+put f k x l = cond (eqb k l) x (f l)
 
 module _ {M : Type 0} (o : Ops M) where
   -- the weights p and q, the last entry first: p gains what q has at k, which becomes zero

@@ -7,6 +7,7 @@ use lib.ListN.{length, take, drop}
 use Rattle.std.specs.declared.option.Option.{Option}
 use Rattle.std.specs.declared.option.Option.the-variants.{Some, None}
 use Rattle.shape.specs.Refusals.{firstOf}
+use Rattle.index.specs.Indices.{outside}
 use Rattle.steps.specs.declared.kind.Kind.{Kind}
 use Rattle.steps.specs.declared.kind.Kind.the-variants.{Update, Cols, SumCol, AddCol, SetCol, Axpy, Copy, Scale, Gather, Scatter}
 
@@ -54,17 +55,17 @@ listed Gather = true
 listed Scatter = true
 
 -- a column or a range is not within c columns
-abbrev pub outside : ℕ → Kind → Bool
-outside c (Update k) = leb c (k + 2)
-outside c (Cols k) = ltb c k
-outside c (SumCol start end) = ltb c end || ltb end start
-outside c (AddCol j) = leb c j
-outside c (SetCol j) = leb c j
-outside c Axpy = false
-outside c Copy = false
-outside c Scale = false
-outside c Gather = false
-outside c Scatter = false
+abbrev pub misplaced : ℕ → Kind → Bool
+misplaced c (Update k) = leb c (k + 2)
+misplaced c (Cols k) = ltb c k
+misplaced c (SumCol start end) = ltb c end || ltb end start
+misplaced c (AddCol j) = leb c j
+misplaced c (SetCol j) = leb c j
+misplaced c Axpy = false
+misplaced c Copy = false
+misplaced c Scale = false
+misplaced c Gather = false
+misplaced c Scatter = false
 
 -- an order above 5, or more than 8 columns
 abbrev pub tooMany : Kind → Bool
@@ -84,19 +85,14 @@ abbrev pub miscounted : {A : Type 0} → ℕ → Option (List A) → Bool
 miscounted n None = true
 miscounted n (Some xs) = not (eqb (length xs) n)
 
--- an index of the list is not below r
-abbrev pub beyond : ℕ → List ℕ → Bool
-beyond r [] = false
-beyond r (k ∷ ks) = leb r k || beyond r ks
-
 -- the tests of a step in their order
 abbrev pub stepTests : {M : Type 0} → ℕ → ℕ → Step M → List (ℕ × Bool)
 stepTests r c x =
-    (4, outside c (x .kind))
+    (4, misplaced c (x .kind))
     ∷ (5, tooMany (x .kind))
     ∷ (6, miscounted (needed (x .kind)) (x .numbers))
     ∷ (9, listed (x .kind) && miscounted r (x .list))
-    ∷ (10, listed (x .kind) && beyond r (given (x .list))) ∷ []
+    ∷ (10, listed (x .kind) && outside r (given (x .list))) ∷ []
 
 -- the number with which r rows and c columns refuse a step, 0 where they accept it
 abbrev pub fault : {M : Type 0} → ℕ → ℕ → Step M → ℕ

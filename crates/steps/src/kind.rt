@@ -2,7 +2,7 @@
 //! Back, a step works on the weights E, p and q of D, u and v.
 ghost use mathlib.Core.Path.{_≡_};
 ghost use mathlib.Core.Bool.{cond};
-ghost use Rattle.steps.specs.Steps.{needed, listed, outside, tooMany};
+ghost use Rattle.steps.specs.Steps.{needed, listed, misplaced, tooMany};
 
 /// A kind with its columns. Its numbers a, b, M and x, in this order, and its list lie beside it.
 #[derive(Clone, Copy, PartialEq, Debug)]
@@ -36,8 +36,8 @@ pub enum Kind {
 
 impl Kind {
     /// A column or a range is not within `cols` columns; order + 2 is compared without wrapping.
-    pub fn outside(self, cols: usize) -> bool
-        ensures { λ r. ⌜ r ≡ outside cols self ⌝ }
+    pub fn misplaced(self, cols: usize) -> bool
+        ensures { λ r. ⌜ r ≡ misplaced cols self ⌝ }
     {
         match self {
             Kind::Update { order } => cols.saturating_sub(2) <= order,
