@@ -1,0 +1,11 @@
+pub mod Sums
+pub mod Pairings
+pub mod Lists
+pub mod Products
+pub mod Updates
+pub mod Accepted
+pub mod Transposes
+pub mod Kept
+pub mod Mapped
+pub mod Alikes
+pub mod Chains

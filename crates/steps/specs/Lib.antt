@@ -1,0 +1,8 @@
+pub mod Rows
+pub mod Indices
+pub mod States
+pub mod Steps
+pub mod Actions
+pub mod Runs
+pub mod Lanes
+pub mod Relations
