@@ -17,10 +17,10 @@ use Rattle.index.specs.Indices.{Inside}
 use Rattle.index.specs.Transposes.{put, gatheredBack, scatteredBack}
 
 put-here : {A : Type 0} (f : ℕ → A) (k : ℕ) (x : A) (l : ℕ) → l ≡ k → put f k x l ≡ x
-put-here f k x l e = ap (λ b. cond b x (f l)) (eq-eqb l k e)
+put-here f k x l e = ap (λ b. cond b x (f l)) (eq-eqb k l (sym e))
 
 put-there : {A : Type 0} (f : ℕ → A) (k : ℕ) (x : A) (l : ℕ) → (l ≡ k → ⊥) → put f k x l ≡ f l
-put-there f k x l ne = ap (λ b. cond b x (f l)) (ne-eqb l k ne)
+put-there f k x l ne = ap (λ b. cond b x (f l)) (ne-eqb k l (λ e. ne (sym e)))
 
 -- a slice after a write at k, as a function of its rows
 set-put : {S M : Type 0} (means : S → M) (xs : List S) (k : ℕ) (v : S) (d : S) (l : ℕ) → k < length xs → means (getD (set xs k v) l d) ≡ put (λ j. means (getD xs j d)) k (means v) l

@@ -14,7 +14,7 @@ use Rattle.index.specs.Indices.{outside, Inside}
 
 -- f with x at the place k
 abbrev pub put : {A : Type 0} → (ℕ → A) → ℕ → A → ℕ → A
-put f k x l = cond (eqb l k) x (f l)
+put f k x l = cond (eqb k l) x (f l)
 
 module _ {M : Type 0} (o : Ops M) where
   -- q after each entry of the list, from place i on, has added row i of p to the row that it names

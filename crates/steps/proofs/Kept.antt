@@ -13,9 +13,10 @@ use Rattle.shape.specs.Refusals.{firstOf}
 use Rattle.vector.specs.Rows.{blend}
 use Rattle.index.specs.Indices.{outside, settled}
 use Rattle.index.proofs.Tested.{inside-of}
-use Rattle.steps.specs.Rows.{updated, scanned, transposed, multiplied, number, summed, spread}
+use Rattle.product.specs.Rows.{summed, spread}
+use Rattle.differences.specs.Rows.{updated, scanned, transposed, multiplied, number}
 use Rattle.steps.specs.States.{Lane, Related, columnsFrom, pairing}
-use Rattle.steps.specs.Indices.{put, scatteredBack, gatheredBack}
+use Rattle.index.specs.Transposes.{put, scatteredBack, gatheredBack}
 use Rattle.steps.specs.Steps.{Step, given, miscounted, needed, listed, misplaced, tooMany, fault}
 use Rattle.steps.specs.Actions.{row, nth, total, forwardBy, backBy, forward, back}
 use Rattle.steps.specs.Runs.{taken, carried, run, carry}

@@ -14,7 +14,7 @@ use Rattle.scalar.specs.Ops.{Ops, Ring}
 use Rattle.scalar.specs.Sums.{sum}
 use Rattle.scalar.proofs.RingLaws.{zero-plus, times-zero}
 use Rattle.index.specs.Indices.{outside, settled}
-use Rattle.steps.specs.Indices.{put, scatteredBack, gatheredBack}
+use Rattle.index.specs.Transposes.{put, scatteredBack, gatheredBack}
 use Rattle.steps.proofs.Sums.{sum-same, plus-assoc, plus-comm, times-plus, sum-zero, sum-gain, sum-front, sorts}
 
 pub put-same : {A : Type 0} (f : ℕ → A) (k : ℕ) (x : A) → put f k x k ≡ x

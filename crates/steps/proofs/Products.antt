@@ -9,7 +9,8 @@ use Rattle.scalar.specs.Ops.{Ops, Ring}
 use Rattle.scalar.specs.Sums.{sum, sum-from}
 use Rattle.scalar.proofs.RingLaws.{zero-plus, times-zero}
 use Rattle.vector.specs.Rows.{blend}
-use Rattle.steps.specs.Rows.{multiplied, summed, spread}
+use Rattle.product.specs.Rows.{summed, spread}
+use Rattle.differences.specs.Rows.{multiplied}
 use Rattle.steps.specs.Actions.{total}
 use Rattle.steps.proofs.Sums.{sum-same, plus-assoc, times-plus, plus-times, zero-times, one-times, from-sum, sum-times, times-sum, sum-swap, sum-gain, sum-front, sum-below, sorts, ring, times-assoc, times-comm}
 

@@ -9,9 +9,9 @@ use Rattle.std.proofs.shelf.Ways.{tells}
 use Rattle.scalar.specs.Ops.{Ops, Ring}
 use Rattle.scalar.specs.Sums.{sum}
 use Rattle.scalar.proofs.RingLaws.{times-zero}
-use Rattle.steps.specs.Rows.{number}
+use Rattle.differences.specs.Rows.{number}
 use Rattle.steps.specs.States.{Lane, pairing}
-use Rattle.steps.specs.Indices.{put}
+use Rattle.index.specs.Transposes.{put}
 use Rattle.steps.specs.Steps.{Step, given, fault}
 use Rattle.steps.specs.Actions.{row, nth, forwardBy, backBy, forward, back}
 use Rattle.steps.specs.Runs.{taken, carried, run, carry, Transposed}

@@ -10,7 +10,7 @@ use Rattle.std.proofs.shelf.Ways.{tells}
 use Rattle.scalar.specs.Ops.{Ops, Ring}
 use Rattle.scalar.specs.Sums.{sum}
 use Rattle.scalar.proofs.RingLaws.{zero-plus, times-zero}
-use Rattle.steps.specs.Rows.{updated, scanned, transposed, multiplied}
+use Rattle.differences.specs.Rows.{updated, scanned, transposed, multiplied}
 use Rattle.steps.specs.Actions.{total}
 use Rattle.steps.proofs.Sums.{sum-same, plus-assoc, times-plus, plus-times, zero-times, times-minus, sum-zero, sum-gain, sum-cut, sum-below, sorts, ring}
 use Rattle.steps.proofs.Products.{multiplied-inside, multiplied-past, total-sum}

@@ -5,8 +5,9 @@ use lib.ListN.{getD}
 use Rattle.scalar.specs.Ops.{Ops}
 use Rattle.vector.specs.Rows.{blend}
 use Rattle.index.specs.Indices.{settled}
-use Rattle.steps.specs.Rows.{updated, transposed, multiplied, number, summed, spread}
-use Rattle.steps.specs.Indices.{put, scatteredBack, gatheredBack}
+use Rattle.product.specs.Rows.{summed, spread}
+use Rattle.differences.specs.Rows.{updated, transposed, multiplied, number}
+use Rattle.index.specs.Transposes.{put, scatteredBack, gatheredBack}
 use Rattle.steps.specs.States.{Lane}
 use Rattle.steps.specs.Steps.{Step, given}
 use Rattle.steps.specs.declared.kind.Kind.{Kind}

@@ -1,5 +1,3 @@
-pub mod Rows
-pub mod Indices
 pub mod States
 pub mod Steps
 pub mod Actions
