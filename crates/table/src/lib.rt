@@ -1,0 +1,14 @@
+//! Calls on whole tables, over any scalar. Every source broadcasts where its lanes go into the
+//! destination's; row and column counts must agree, and a refusal writes nothing.
+pub mod arithmetic;
+pub mod columns;
+pub mod store;
+
+pub use arithmetic::add_assign;
+pub use arithmetic::mul_assign;
+pub use arithmetic::sub_assign;
+pub use arithmetic::sub_into;
+pub use columns::add_column_to_vector;
+pub use columns::set_column;
+pub use store::copy_from;
+pub use store::fill;
