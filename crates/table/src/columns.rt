@@ -1,4 +1,4 @@
-//! A column of a table and a vector.
+//! A table's columns and a vector.
 ghost use mathlib.Core.Path.{_≡_};
 ghost use lib.ListN.{length};
 ghost use Rattle.scalar.specs.Ops.{Ops};
@@ -6,6 +6,9 @@ ghost use Rattle.shape.specs.Shapes.{columnOf};
 ghost use Rattle.shape.specs.Refusals.{answer, firstOf};
 ghost use Rattle.shape.specs.Operands.{pairTests};
 ghost use Rattle.elementwise.specs.Entrywise.{Entrywise};
+ghost use Rattle.table.specs.Tests.{columnsTests, ColumnsLawful};
+ghost use Rattle.table.specs.Calls.{ColumnsAdded};
+use crate::check::check_columns;
 use scalar::Scalar;
 use shape::Column;
 use shape::Refusal;
@@ -39,4 +42,29 @@ pub fn add_column_to_vector<S: Scalar>(
     ensures refused { λ r. ⌜ ((answer r ≡ 0 → ⊥) → now (vs .exit) ≡ now (vs .entry)) ⌝ }
 {
     vector::add_assign(Column { of: t, col: j }, ts, v, vs)
+}
+
+/// A table's lanes and columns lie as the lanes of a vector do, so this is a sum of vectors. The
+/// shapes are lawful, so it is accepted.
+fn add_columns<S: Scalar>(t: TableShape, ts: &[S], v: Column, vs: &mut [S])
+    requires { ⌜ ColumnsLawful t (length (now ts)) v (length (now vs)) ⌝ }
+    ensures { λ _. ⌜ ColumnsAdded means ops t (now (ts .entry)) v (now (vs .entry)) (now (vs .exit)) ⌝ }
+{
+    let _ = vector::add_assign(Column::vector(t.rows, v.of.lanes), ts, v, vs);
+}
+
+/// Lane b·c + j of v gains column j of lane b of t, which has c columns.
+pub fn add_columns_to_batched_vector<S: Scalar>(
+    t: TableShape,
+    ts: &[S],
+    v: Column,
+    vs: &mut [S],
+) -> Result<(), Refusal>
+    ensures verdict { λ r. ⌜ answer r ≡ firstOf (columnsTests t (length (now (ts .entry))) v (length (now (vs .entry)))) ⌝ }
+    ensures accepted { λ r. ⌜ (answer r ≡ 0 → ColumnsAdded means ops t (now (ts .entry)) v (now (vs .entry)) (now (vs .exit))) ⌝ }
+    ensures refused { λ r. ⌜ ((answer r ≡ 0 → ⊥) → now (vs .exit) ≡ now (vs .entry)) ⌝ }
+{
+    check_columns(t, ts.len(), v, vs.len())?;
+    add_columns(t, ts, v, vs);
+    Ok(())
 }
