@@ -48,11 +48,18 @@ shape-passes t len h = none-fits (shapeTests t len) (some-lanes t len h, (not-la
 
 pub tables-pass : (x : TableShape) (xl : ℕ) (y : TableShape) (yl : ℕ) → TablesLawful x xl y yl → firstOf (tableTests x xl y yl) ≡ 0
 tables-pass x xl y yl h = none-fits (tableTests x xl y yl) (
-    or-from (noLanes x) (noLanes y) (some-lanes x xl (h .source)) (some-lanes y yl (h .target)),
-    (or-from (tooLarge x) (tooLarge y) (not-large x xl (h .source)) (not-large y yl (h .target)),
-    (or-from (misfit x xl) (misfit y yl) (fit x xl (h .source)) (fit y yl (h .target)),
-    (or-from (not (eqb (x .rows) (y .rows))) (not (eqb (x .cols) (y .cols))) (same-counts (x .rows) (y .rows) (h .rows)) (same-counts (x .cols) (y .cols) (h .cols)),
-    (h .lanes, tt)))))
+  or-from (noLanes x) (noLanes y) (some-lanes x xl (h .source)) (some-lanes y yl (h .target)),
+  (
+    or-from (tooLarge x) (tooLarge y) (not-large x xl (h .source)) (not-large y yl (h .target)),
+    (
+      or-from (misfit x xl) (misfit y yl) (fit x xl (h .source)) (fit y yl (h .target)),
+      (
+        or-from (not (eqb (x .rows) (y .rows))) (not (eqb (x .cols) (y .cols))) (same-counts (x .rows) (y .rows) (h .rows)) (same-counts (x .cols) (y .cols) (h .cols)),
+        (h .lanes, tt),
+      ),
+    ),
+  ),
+)
 
 module _ (x : Column) (xl : ℕ) (y : Column) (yl : ℕ) (source : Lawful x xl) (target : Lawful y yl) where
   lanes₂ : noLanes (x .of) || noLanes (y .of) ≡ false
@@ -74,6 +81,22 @@ module _ (x : Column) (xl : ℕ) (y : Column) (yl : ℕ) (source : Lawful x xl) 
   -- one row, by its number
   pub copy-passes : (k : ℕ) → k < x .of .rows → k < y .of .rows → x .of .lanes ≡ y .of .lanes → firstOf (copyTests x xl (k ∷ []) y yl) ≡ 0
   copy-passes k h h′ lanes =
-      none-fits (copyTests x xl (k ∷ []) y yl) (lanes₂, (large₂, (fit₂, (columns₂, (same-lanes (x .of .lanes) (y .of .lanes) lanes, (
-      or-from (leb (x .of .rows) k || false) (leb (y .of .rows) k || false) (or-from (leb (x .of .rows) k) false (lt-leb (x .of .rows) k h) refl) (or-from (leb (y .of .rows) k) false (lt-leb (y .of .rows) k h′) refl),
-      tt))))))
+      none-fits (copyTests x xl (k ∷ []) y yl) (
+        lanes₂,
+        (
+          large₂,
+          (
+            fit₂,
+            (
+              columns₂,
+              (
+                same-lanes (x .of .lanes) (y .of .lanes) lanes,
+                (
+                  or-from (leb (x .of .rows) k || false) (leb (y .of .rows) k || false) (or-from (leb (x .of .rows) k) false (lt-leb (x .of .rows) k h) refl) (or-from (leb (y .of .rows) k) false (lt-leb (y .of .rows) k h′) refl),
+                  tt,
+                ),
+              ),
+            ),
+          ),
+        ),
+      )

@@ -10,7 +10,7 @@ use Rattle.shape.specs.Refusals.{firstOf}
 use Rattle.shape.specs.declared.operand.TableShape.{TableShape}
 use Rattle.shape.specs.declared.operand.Column.{Column}
 use Rattle.shape.proofs.Verdicts.{clear, fits-of}
-use Rattle.table.specs.Tests.{otherCounts, threeTests, ThreeLawful, columnsTests, ColumnsLawful, diagonalTests, DiagonalLawful}
+use Rattle.table.specs.Tests.{otherCounts, threeTests, ThreeLawful, columnsTests, ColumnsLawful, diagonalTests, DiagonalLawful, resizeTests, ResizeLawful}
 
 same-count : (a b : ℕ) → not (eqb a b) ≡ false → a ≡ b
 same-count a b e = eqb-true a b (not-false _ e)
@@ -65,3 +65,10 @@ diagonal-passed v vl t tl e =
       cols = same-count _ _ (counts .1);
       lanes = same-count _ _ (q .1 .1 .0);
     }
+
+pub resize-passed : (x : TableShape) (xl : ℕ) (y : TableShape) (yl : ℕ) → firstOf (resizeTests x xl y yl) ≡ 0 → ResizeLawful x xl y yl
+resize-passed x xl y yl e =
+    let p = clear (resizeTests x xl y yl) refl e in
+    let fit = shapes-fit x xl y yl (p .0) (p .1 .0) (p .1 .1 .0) in
+    let q = p .1 .1 .1 in
+    record { source = fit .0; target = fit .1; rows = same-count _ _ (q .0); lanes = same-count _ _ (q .1 .0) }

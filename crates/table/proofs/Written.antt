@@ -22,8 +22,8 @@ use Rattle.shape.proofs.Cells.{changed-as}
 use Rattle.elementwise.specs.Entrywise.{Entrywise, Tablewise, Revised-table}
 use Rattle.index.specs.Calls.{Routed}
 use Rattle.index.specs.declared.route.Route.the-variants.{Copy}
-use Rattle.table.specs.Tests.{ColumnsLawful, DiagonalLawful}
-use Rattle.table.specs.Calls.{ScaleAdded, ColumnsAdded, Diagonal}
+use Rattle.table.specs.Tests.{ColumnsLawful, DiagonalLawful, ResizeLawful}
+use Rattle.table.specs.Calls.{ScaleAdded, ColumnsAdded, Diagonal, Resized}
 use Rattle.table.proofs.Passes.{pair-passes, own-lane}
 
 module _ {S M : Type 0} (means : S → M) (o : Ops M) where
@@ -99,5 +99,35 @@ module _ {S M : Type 0} (means : S → M) (o : Ops M) where
     pub placed-all : (m : ℕ) (old cur : List S) → t .cols ≤ m → Placed v vs t m cur → Diagonal means o v vs t old cur
     placed-all m old cur end done = record {
       written = λ b j i d w h. record { diagonal = λ e q. done .diagonal b j i d e w (omega (arith, w .col)) q; other = λ n. done .other b j i d w (λ _ q. n q) };
+      kept = λ b j i d w n. absurd (n tt);
+    }
+
+  -- the columns below m that x has are copied, and those that it has not mean zero
+  pub record Brought (x : TableShape) (xs : List S) (y : TableShape) (m : ℕ) (cur : List S) : Type 0 where
+    pub copied : (b j i : ℕ) (d e : S) → In y b j i → j < m → j < x .cols → getD cur (cell y b j i) d ≡ getD xs (cell x b j i) e
+    pub further : (b j i : ℕ) (d : S) → In y b j i → x .cols ≤ j → means (getD cur (cell y b j i) d) ≡ o .zero
+
+  module _ (x : TableShape) (xs : List S) (y : TableShape) where
+    pub brought-none : (zero : S) (old cur : List S) → means zero ≡ o .zero → Revised-table y (λ q w. w ≡ zero) old cur → Brought x xs y 0 cur
+    brought-none zero old cur e filled = record {
+      copied = λ b j i d d′ w h q. absurd (omega arith);
+      further = λ b j i d w n. ap means (filled .written b j i d w tt d) ∙ e;
+    }
+
+    pub brought-more : (xl yl m : ℕ) (cur cur′ : List S) → ResizeLawful x xl y yl → m < x .cols → Brought x xs y m cur → Entrywise (columnOf x m) xs (columnOf y m) (λ p q w. w ≡ p) cur cur′
+        → Brought x xs y (m + 1) cur′
+    brought-more xl yl m cur cur′ law within before wrote = record {
+      copied = λ b j i d e w h q. elim (cases-eq j m) [
+        | inl here ↦
+            let lane = own-lane b (x .lanes) (y .lanes) (law .lanes) (law .target .some) in
+            wrote .written b j i d w here e ∙ ap (λ z. getD xs (cell x z m i) e) lane ∙ ap (λ z. getD xs (cell x b z i) e) (sym here)
+        | inr there ↦ wrote .kept b j i d w there ∙ before .copied b j i d e w (omega arith) q
+      ];
+      further = λ b j i d w h. ap means (wrote .kept b j i d w (λ here. omega arith)) ∙ before .further b j i d w h;
+    }
+
+    pub brought-all : (m : ℕ) (old cur : List S) → ((j : ℕ) → j < x .cols → j < y .cols → j < m) → Brought x xs y m cur → Resized means o x xs y old cur
+    brought-all m old cur end done = record {
+      written = λ b j i d w h. record { copied = λ e q. done .copied b j i d e w (end j q (w .col)) q; further = λ q. done .further b j i d w q };
       kept = λ b j i d w n. absurd (n tt);
     }

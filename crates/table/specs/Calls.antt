@@ -1,7 +1,7 @@
 -- What the table calls write that are not the elementwise ones. Assumes nothing.
 use mathlib.Core.List.{List}
 use mathlib.Core.Path.{_≡_}
-use Prim.Native.Nat.{ℕ, _+_, _*_, _<_}
+use Prim.Native.Nat.{ℕ, _+_, _*_, _<_, _≤_}
 use lib.ListN.{getD}
 use Rattle.scalar.specs.Ops.{Ops}
 use Rattle.shape.specs.Shapes.{cell}
@@ -33,3 +33,11 @@ module _ {S M : Type 0} (means : S → M) (o : Ops M) where
 
   abbrev pub Diagonal : Column → List S → TableShape → List S → List S → Type 0
   Diagonal v vs t old cur = Changed t Everywhere (OnDiagonal v vs) old cur
+
+  -- a column that x has holds x's, a further one means zero
+  pub record InResized (x : TableShape) (xs : List S) (b j i : ℕ) (w : S) : Type 0 where
+    pub copied : (d : S) → j < x .cols → w ≡ getD xs (cell x b j i) d
+    pub further : x .cols ≤ j → means w ≡ o .zero
+
+  abbrev pub Resized : TableShape → List S → TableShape → List S → List S → Type 0
+  Resized x xs y old cur = Changed y Everywhere (InResized x xs) old cur

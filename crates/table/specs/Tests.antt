@@ -55,3 +55,13 @@ pub record DiagonalLawful (v : Column) (vl : ℕ) (t : TableShape) (tl : ℕ) : 
   pub rows : t .rows ≡ v .of .rows
   pub cols : t .cols ≡ v .of .rows
   pub lanes : v .of .lanes ≡ t .lanes
+
+-- table x read into the first columns of table y
+abbrev pub resizeTests : TableShape → ℕ → TableShape → ℕ → List (ℕ × Bool)
+resizeTests x xl y yl = shapesTests x xl y yl ++ ((7, not (eqb (x .rows) (y .rows))) ∷ (8, not (eqb (x .lanes) (y .lanes))) ∷ [])
+
+pub record ResizeLawful (x : TableShape) (xl : ℕ) (y : TableShape) (yl : ℕ) : Type 0 where
+  pub source : Fits x xl
+  pub target : Fits y yl
+  pub rows : x .rows ≡ y .rows
+  pub lanes : x .lanes ≡ y .lanes

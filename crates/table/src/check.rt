@@ -5,7 +5,7 @@ ghost use Prim.Native.Nat.{ℕ, _*_};
 ghost use lib.Dec.{eqb};
 ghost use Rattle.shape.specs.Shapes.{tooLarge};
 ghost use Rattle.shape.specs.Refusals.{answer, firstOf};
-ghost use Rattle.table.specs.Tests.{threeTests, ThreeLawful, columnsTests, ColumnsLawful, diagonalTests, DiagonalLawful};
+ghost use Rattle.table.specs.Tests.{threeTests, ThreeLawful, columnsTests, ColumnsLawful, diagonalTests, DiagonalLawful, resizeTests, ResizeLawful};
 use shape::Column;
 use shape::Refusal;
 use shape::TableShape;
@@ -129,4 +129,30 @@ pub(crate) fn check_diagonal(
     ensures lawful { λ r. ⌜ (answer r ≡ 0 → DiagonalLawful v «v_len» t «t_len») ⌝ }
 {
     test_diagonal(v, v_len, t, t_len)
+}
+
+fn test_resize(x: TableShape, x_len: usize, y: TableShape, y_len: usize) -> Result<(), Refusal>
+    ensures { λ r. ⌜ answer r ≡ firstOf (resizeTests x «x_len» y «y_len») ⌝ }
+{
+    refuse_shapes!(x, x_len; y, y_len);
+    if x.rows != y.rows {
+        return Err(Refusal::Counts);
+    }
+    if x.lanes != y.lanes {
+        return Err(Refusal::Lanes);
+    }
+    Ok(())
+}
+
+/// The tests of `resize_cols`, and what acceptance tells.
+pub(crate) fn check_resize(
+    x: TableShape,
+    x_len: usize,
+    y: TableShape,
+    y_len: usize,
+) -> Result<(), Refusal>
+    ensures verdict { λ r. ⌜ answer r ≡ firstOf (resizeTests x «x_len» y «y_len») ⌝ }
+    ensures lawful { λ r. ⌜ (answer r ≡ 0 → ResizeLawful x «x_len» y «y_len») ⌝ }
+{
+    test_resize(x, x_len, y, y_len)
 }

@@ -16,5 +16,6 @@ pub use columns::add_columns_to_batched_vector;
 pub use columns::set_column;
 pub use combine::scale_add_and_assign;
 pub use reshape::from_diagonal;
+pub use reshape::resize_cols;
 pub use store::copy_from;
 pub use store::fill;
