@@ -19,12 +19,12 @@ use Rattle.shape.specs.declared.operand.TableShape.{TableShape}
 use Rattle.shape.specs.declared.operand.Column.{Column}
 use Rattle.shape.proofs.Blocks.{cells-are}
 use Rattle.shape.proofs.Cells.{changed-as}
+use Rattle.shape.proofs.Passes.{pair-passes, own-lane}
 use Rattle.elementwise.specs.Entrywise.{Entrywise, Tablewise, Revised-table}
 use Rattle.index.specs.Calls.{Routed}
 use Rattle.index.specs.declared.route.Route.the-variants.{Copy}
 use Rattle.table.specs.Tests.{ColumnsLawful, DiagonalLawful, ResizeLawful}
 use Rattle.table.specs.Calls.{ScaleAdded, ColumnsAdded, Diagonal, Resized}
-use Rattle.table.proofs.Passes.{pair-passes, own-lane}
 
 module _ {S M : Type 0} (means : S → M) (o : Ops M) where
   -- a copy of x, and then the gain of beta·y

@@ -6,7 +6,7 @@ use Prim.Native.Nat.{ℕ, _*_}
 use lib.Dec.{eqb}
 use Rattle.shape.specs.Shapes.{noLanes, tooLarge, misfit, noColumn, Fits, Lawful}
 use Rattle.shape.specs.Lanes.{noBroadcast}
-use Rattle.shape.specs.Operands.{TablesLawful}
+use Rattle.shape.specs.Operands.{shapesTests, TablesLawful}
 use Rattle.shape.specs.declared.operand.TableShape.{TableShape}
 use Rattle.shape.specs.declared.operand.Column.{Column}
 
@@ -26,10 +26,6 @@ threeTests x xl y yl t tl =
 pub record ThreeLawful (x : TableShape) (xl : ℕ) (y : TableShape) (yl : ℕ) (t : TableShape) (tl : ℕ) : Type 0 where
   pub first : TablesLawful x xl t tl
   pub second : TablesLawful y yl t tl
-
--- two shapes, each in its memory
-abbrev pub shapesTests : TableShape → ℕ → TableShape → ℕ → List (ℕ × Bool)
-shapesTests x xl y yl = (1, noLanes x || noLanes y) ∷ (2, tooLarge x || tooLarge y) ∷ (3, misfit x xl || misfit y yl) ∷ []
 
 -- the columns of table t read into the lanes of vector v, which has a lane for each column of each lane
 abbrev pub columnsTests : TableShape → ℕ → Column → ℕ → List (ℕ × Bool)

@@ -9,26 +9,10 @@ ghost use Rattle.table.specs.Tests.{threeTests, ThreeLawful, columnsTests, Col
 use shape::Column;
 use shape::Refusal;
 use shape::TableShape;
-use shape::check::misfits;
 use shape::check::no_column;
-use shape::check::no_lanes;
 use shape::check::too_large;
 use shape::lanes::no_broadcast;
-
-/// The tests of the numbers 1 to 3 over every shape that is named with its memory's length.
-macro_rules! refuse_shapes {
-    ($($t:expr, $len:expr);+) => {
-        if $(no_lanes($t))|+ {
-            return Err(Refusal::NoLanes);
-        }
-        if $(too_large($t))|+ {
-            return Err(Refusal::TooLarge);
-        }
-        if $(misfits($t, $len))|+ {
-            return Err(Refusal::Memory);
-        }
-    };
-}
+use shape::refuse_shapes;
 
 fn test_three(
     x: TableShape,

@@ -2,7 +2,7 @@ use mathlib.Core.Path.{_≡_, sym, subst, _∙_}
 use Prim.Native.Nat.{ℕ}
 use lib.ListN.{length}
 use Rattle.shape.specs.Operands.{TablesLawful}
-use Rattle.table.proofs.Passes.{tables-pass}
+use Rattle.shape.proofs.Passes.{tables-pass}
 use Rattle.table.proofs.Written.{scale-added}
 use Rattle.table.proofs.combine.scale_add_cells.Needs as need
 

@@ -3,7 +3,8 @@ use Prim.Native.Nat.{ℕ, _<_}
 use native.Mathlib.Omega.{arith}
 use lib.ListN.{length}
 use Rattle.shape.specs.Shapes.{columnOf, Fits}
-use Rattle.table.proofs.Passes.{shape-passes, copy-passes}
+use Rattle.shape.proofs.Passes.{shape-passes}
+use Rattle.table.proofs.Passes.{copy-passes}
 use Rattle.table.proofs.Written.{placed-none, placed-more, placed-all}
 use Rattle.table.proofs.reshape.place_diagonal.Needs as need
 
@@ -25,7 +26,7 @@ loop-i-again g c =
     let i = c .loop-i .i in
     let h = c .loop-i-test .taken in
     let in-t : Fits t (length cur) = rw (c .loop-i .kept .ts, c .fill .kept .ys) (c .pre .target) in
-    let passes = copy-passes v (length vs) (columnOf t i) (length cur) (c .pre .source) (record { fits = in-t; within = h }) i (omega (arith, c .pre .cols)) (omega (arith, c .pre .rows, c .pre .cols)) (c .pre .lanes) in
+    let passes = copy-passes v (length vs) (columnOf t i) (length cur) i (c .pre .source) (record { fits = in-t; within = h }) (omega (arith, c .pre .cols)) (omega (arith, c .pre .rows, c .pre .cols)) (c .pre .lanes) in
     placed-more (s .means) (s .ops) v vs t (length vs) (length (c .args .ts .now)) i cur (c .copy-from-indices .last .ys) (c .pre) (c .loop-i .inv)
     (c .copy-from-indices .ensures .accepted (c .copy-from-indices .ensures .verdict ∙ passes))
 

@@ -3,7 +3,7 @@ use Prim.Native.Nat.{ℕ, _<_, _≤_}
 use native.Mathlib.Omega.{arith}
 use lib.ListN.{length}
 use Rattle.shape.specs.Shapes.{columnOf, Fits}
-use Rattle.table.proofs.Passes.{shape-passes, pair-passes}
+use Rattle.shape.proofs.Passes.{shape-passes, pair-passes}
 use Rattle.table.proofs.Written.{brought-none, brought-more, brought-all}
 use Rattle.table.proofs.reshape.resize_cells.Needs as need
 use Rattle.table.proofs.reshape.resize_cells.Needs.{then-x-y, else-x-y}
