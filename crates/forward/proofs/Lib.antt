@@ -1,0 +1,3 @@
+pub mod Passes
+pub mod Families
+pub mod Routes

@@ -1,0 +1,4 @@
+//! The ten kinds of steps forward on lent memory, each by the call of the library that is named for
+//! it.
+mod tables;
+mod vectors;
