@@ -1,0 +1,6 @@
+//! Steps back on lent weights: each of the ten kinds by calls of the library, and a step of a script.
+pub mod columns;
+pub mod multiple;
+pub mod vectors;
+
+pub use multiple::gain;
