@@ -1,3 +1,5 @@
 pub mod Passes
 pub mod Families
 pub mod Routes
+pub mod Columns
+pub mod Records

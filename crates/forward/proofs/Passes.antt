@@ -16,6 +16,9 @@ use Rattle.shape.specs.declared.operand.Column.{Column}
 use Rattle.shape.proofs.Verdicts.{Clear}
 use Rattle.index.specs.Indices.{outside}
 use Rattle.index.specs.Calls.{gatherTests, scatterTests}
+use Rattle.product.specs.Tests.{gemvColsTests}
+use Rattle.differences.specs.MulCols.{mulColsTests}
+use Rattle.differences.specs.Updates.{updateTests}
 
 clear-first : (ts : List (ℕ × Bool)) → Clear ts → firstOf ts ≡ 0
 clear-first [] p = refl
@@ -84,3 +87,55 @@ scatter-passes x xl list y yl lx ly lanes long inside =
     let two = two-clear x xl y yl lx ly in
     clear-first (scatterTests x xl list y yl)
     (two .lanes, (two .large, (two .size, (two .columns, (same-lanes (x .of .lanes) (y .of .lanes) lanes, (not-from-true _ (eq-eqb (length list) (x .of .rows) long), (inside, tt)))))))
+
+-- ---- columns of a table
+
+pub gemv-cols-passes : (t : TableShape) (tl start end count : ℕ) (v : Column) (vl : ℕ) → Fits t tl → Lawful v vl → start ≤ end → end ≤ t .cols → end - start ≤ 8 → end - start ≤ count
+    → t .rows ≡ v .of .rows → t .lanes ≡ v .of .lanes → firstOf (gemvColsTests t tl start end count v vl) ≡ 0
+gemv-cols-passes t tl start end count v vl ft lv ordered within few enough rows lanes =
+    let p = sound t tl ft in
+    let q = sound (v .of) vl (lv .fits) in
+    let columns = or-from (ltb (t .cols) end) _ (le-ltb (t .cols) end within) (or-from (ltb end start) (noColumn v) (le-ltb end start ordered) (column-there v vl lv)) in
+    clear-first (gemvColsTests t tl start end count v vl) (
+      or-from (noLanes t) (noLanes (v .of)) (p .lanes) (q .lanes),
+      (
+        or-from (tooLarge t) (tooLarge (v .of)) (p .large) (q .large),
+        (
+          or-from (misfit t tl) (misfit (v .of) vl) (p .size) (q .size),
+          (columns, (le-ltb 8 (end - start) few, (le-ltb count (end - start) enough, (not-from-true _ (eq-eqb (t .rows) (v .of .rows) rows), (same-lanes (t .lanes) (v .of .lanes) lanes, tt))))),
+        ),
+      ),
+    )
+
+pub mul-cols-passes : (t : TableShape) (len k count work : ℕ) → Fits t len → 8 ≤ work → k ≤ t .cols → k ≤ 8 → count ≡ k * k → firstOf (mulColsTests t len k count work) ≡ 0
+mul-cols-passes t len k count work ft room within few exactly =
+    let p = sound t len ft in
+    clear-first (mulColsTests t len k count work) (
+      p .lanes,
+      (
+        p .large,
+        (
+          or-from (misfit t len) (ltb work 8) (p .size) (le-ltb work 8 room),
+          (le-ltb (t .cols) k within, (le-ltb 8 k few, (not-from-true _ (eq-eqb count (k * k) exactly), tt))),
+        ),
+      ),
+    )
+
+pub update-passes : (t : TableShape) (len k : ℕ) (d : Column) (dl : ℕ) → Fits t len → Lawful d dl → k + 2 < t .cols → d .of .rows ≡ t .rows → d .of .lanes ≡ t .lanes
+    → firstOf (updateTests t len k d dl) ≡ 0
+update-passes t len k d dl ft ld within rows lanes =
+    let p = sound t len ft in
+    let q = sound (d .of) dl (ld .fits) in
+    clear-first (updateTests t len k d dl) (
+      or-from (noLanes t) (noLanes (d .of)) (p .lanes) (q .lanes),
+      (
+        or-from (tooLarge t) (tooLarge (d .of)) (p .large) (q .large),
+        (
+          or-from (misfit t len) (misfit (d .of) dl) (p .size) (q .size),
+          (
+            or-from (leb (t .cols) (k + 2)) (noColumn d) (lt-leb (t .cols) (k + 2) within) (column-there d dl ld),
+            (not-from-true _ (eq-eqb (d .of .rows) (t .rows) rows), (same-lanes (d .of .lanes) (t .lanes) lanes, tt)),
+          ),
+        ),
+      ),
+    )

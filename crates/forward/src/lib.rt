@@ -1,4 +1,5 @@
 //! The ten kinds of steps forward on lent memory, each by the call of the library that is named for
 //! it.
+pub mod check;
 mod tables;
 mod vectors;
