@@ -13,6 +13,12 @@ use Rattle.shape.specs.Operands.{columnTests, pairTests}
 use Rattle.shape.specs.declared.operand.Column.{Column}
 use Rattle.shape.specs.declared.operand.TableShape.{TableShape}
 use Rattle.shape.proofs.Verdicts.{Clear}
+use Rattle.index.specs.Indices.{outside}
+use Rattle.index.specs.Transposes.{backTests}
+use Rattle.product.specs.Tests.{gerColsTests}
+use Rattle.differences.specs.MulCols.{mulColsTests}
+use Rattle.differences.specs.Transposes.{transposeTests}
+use lib.ListN.{length}
 
 clear-first : (ts : List (ℕ × Bool)) → Clear ts → firstOf ts ≡ 0
 clear-first [] p = refl
@@ -56,6 +62,80 @@ pair-accepted x xl y yl source target rows lanes =
           (
             or-from (noColumn x) (noColumn y) (there x xl source) (there y yl target),
             (not-from-true _ (eq-eqb (x .of .rows) (y .of .rows) rows), (into-same (x .of .lanes) (y .of .lanes) lanes, tt)),
+          ),
+        ),
+      ),
+    )
+
+pub back-accepted : (p : Column) (pl : ℕ) (list : List ℕ) (q : Column) (ql : ℕ) → Lawful p pl → Lawful q ql → p .of .lanes ≡ q .of .lanes
+    → length list ≡ p .of .rows → outside (q .of .rows) list ≡ false → firstOf (backTests p pl list q ql) ≡ 0
+back-accepted p pl list q ql first second lanes long inside =
+    let s = sound (p .of) pl (first .fits) in
+    let d = sound (q .of) ql (second .fits) in
+    clear-first (backTests p pl list q ql) (
+      or-from (noLanes (p .of)) (noLanes (q .of)) (s .lanes) (d .lanes),
+      (
+        or-from (tooLarge (p .of)) (tooLarge (q .of)) (s .large) (d .large),
+        (
+          or-from (misfit (p .of) pl) (misfit (q .of) ql) (s .size) (d .size),
+          (
+            or-from (noColumn p) (noColumn q) (there p pl first) (there q ql second),
+            (not-from-true _ (eq-eqb (p .of .lanes) (q .of .lanes) lanes), (not-from-true _ (eq-eqb (length list) (p .of .rows) long), (inside, tt))),
+          ),
+        ),
+      ),
+    )
+
+pub ger-accepted : (t : TableShape) (tl start end count : ℕ) (v : Column) (vl : ℕ) → Fits t tl → Lawful v vl → end ≤ t .cols → start ≤ end → end - start ≤ 8 → end - start ≤ count
+    → t .rows ≡ v .of .rows → v .of .lanes ≡ t .lanes → firstOf (gerColsTests t tl start end count v vl) ≡ 0
+ger-accepted t tl start end count v vl fits law within ordered few enough rows lanes =
+    let s = sound t tl fits in
+    let d = sound (v .of) vl (law .fits) in
+    clear-first (gerColsTests t tl start end count v vl) (
+      or-from (noLanes t) (noLanes (v .of)) (s .lanes) (d .lanes),
+      (
+        or-from (tooLarge t) (tooLarge (v .of)) (s .large) (d .large),
+        (
+          or-from (misfit t tl) (misfit (v .of) vl) (s .size) (d .size),
+          (
+            or-from (ltb (t .cols) end) _ (le-ltb (t .cols) end within) (or-from (ltb end start) (noColumn v) (le-ltb end start ordered) (there v vl law)),
+            (
+              le-ltb 8 (end - start) few,
+              (le-ltb count (end - start) enough, (not-from-true _ (eq-eqb (t .rows) (v .of .rows) rows), (into-same (v .of .lanes) (t .lanes) lanes, tt))),
+            ),
+          ),
+        ),
+      ),
+    )
+
+pub mul-accepted : (t : TableShape) (len k count work : ℕ) → Fits t len → k ≤ t .cols → k ≤ 8 → count ≡ k * k → 8 ≤ work → firstOf (mulColsTests t len k count work) ≡ 0
+mul-accepted t len k count work fits within few enough room =
+    let s = sound t len fits in
+    clear-first (mulColsTests t len k count work) (
+      s .lanes,
+      (
+        s .large,
+        (
+          or-from (misfit t len) (ltb work 8) (s .size) (le-ltb work 8 room),
+          (le-ltb (t .cols) k within, (le-ltb 8 k few, (not-from-true _ (eq-eqb count (k * k) enough), tt))),
+        ),
+      ),
+    )
+
+pub transpose-accepted : (t : TableShape) (len k : ℕ) (d : Column) (dl work : ℕ) → Fits t len → Lawful d dl → k + 2 < t .cols → k ≤ 5 → 8 ≤ work
+    → t .rows ≡ d .of .rows → t .lanes ≡ d .of .lanes → firstOf (transposeTests t len k d dl work) ≡ 0
+transpose-accepted t len k d dl work fits law within few room rows lanes =
+    let s = sound t len fits in
+    let u = sound (d .of) dl (law .fits) in
+    clear-first (transposeTests t len k d dl work) (
+      or-from (noLanes t) (noLanes (d .of)) (s .lanes) (u .lanes),
+      (
+        or-from (tooLarge t) (tooLarge (d .of)) (s .large) (u .large),
+        (
+          or-from (misfit t len) _ (s .size) (or-from (misfit (d .of) dl) (ltb work 8) (u .size) (le-ltb work 8 room)),
+          (
+            or-from (leb (t .cols) (k + 2)) (noColumn d) (lt-leb (t .cols) (k + 2) within) (there d dl law),
+            (le-ltb 5 k few, (not-from-true _ (eq-eqb (t .rows) (d .of .rows) rows), (into-same (t .lanes) (d .of .lanes) lanes, tt))),
           ),
         ),
       ),

@@ -1,2 +1,4 @@
 pub mod Accepts
 pub mod Moves
+pub mod ListMoves
+pub mod TableMoves
