@@ -3,3 +3,4 @@ pub mod Families
 pub mod Routes
 pub mod Columns
 pub mod Records
+pub mod Taken
