@@ -1,11 +1,11 @@
--- Some rows of a column of one lane, as a run of memory: where it lies, and what a write to it leaves. Assumes nothing.
-use mathlib.Core.Path.{_≡_, refl, sym, ap, _∙_}
+-- A column of one lane, or some rows of it, as a run of memory: where it lies, and what is written and what is not. Assumes nothing.
+use mathlib.Core.Path.{_≡_, sym, ap, _∙_}
 use mathlib.Core.List.{List}
 use mathlib.Core.Logic.{_⊎_, inl, inr}
 use Prim.Native.Nat.{ℕ, _+_, _-_, _*_, _<_, _≤_}
 use native.Mathlib.Omega.{arith}
 use native.Mathlib.Nat.{add-mul, mul-le-mul}
-use lib.ListN.{length, getD}
+use lib.ListN.{length}
 use Rattle.std.proofs.shelf.Tests.{cases-lt, cases-eq}
 use Rattle.scalar.specs.Ops.{Ops}
 use Rattle.scalar.specs.Sums.{at}

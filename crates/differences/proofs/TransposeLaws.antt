@@ -1,6 +1,6 @@
 -- The sum of columns with ones for coefficients, and what the constant matrix makes of a row over a ring. Assumes nothing.
 use mathlib.Core.Path.{_≡_, refl, sym, ap, ap₂, _∙_}
-use mathlib.Core.Bool.{Bool, true, false, cond, _&&_}
+use mathlib.Core.Bool.{true, cond, _&&_}
 use mathlib.Core.Logic.{inl, inr}
 use Prim.Native.Nat.{ℕ, zero, suc, _+_, _-_, _<_, _≤_}
 use native.Mathlib.Omega.{arith}
@@ -9,9 +9,10 @@ use Rattle.std.proofs.shelf.Tests.{cond-true, cond-false, cases-lt, le-leb, lt-
 use Rattle.scalar.specs.Ops.{Ops, Ring}
 use Rattle.scalar.specs.Sums.{sum, sum-from}
 use Rattle.scalar.proofs.RingLaws.{zero-plus, times-zero}
+use Rattle.scalar.proofs.SumLaws.{sum-next, sum-same}
 use Rattle.product.specs.Rows.{summed}
 use Rattle.differences.specs.Rows.{multiplied, transposed}
-use Rattle.differences.proofs.RowLaws.{sum-cong, sum-more, multiplied-in}
+use Rattle.differences.proofs.RowLaws.{multiplied-in}
 
 -- with ones, and zero for b, the old entry is not read
 pub summed-ones : {M : Type 0} (o : Ops M) → o .isZero (o .zero) ≡ true → (d : ℕ → M) (n : ℕ) (a b : M) (x : ℕ → M) (y : M) → 0 < n → a ≡ o .one → b ≡ o .zero → ((l : ℕ) → l < n → x l ≡ o .one)
@@ -22,7 +23,7 @@ summed-ones o z d (suc n) a b x y some is-one is-zero ones =
     let first : o .times (o .times a (d 0)) (x 0) ≡ o .times (o .times (o .one) (d 0)) (o .one) = cc in
     ap (λ w. sum-from o w (λ l. o .times (o .times a (d (0 + suc l))) (x (suc l))) n)
     (cond-true (o .isZero b) _ _ (ap (o .isZero) is-zero ∙ z) ∙ first ∙ sym (cond-true (o .isZero (o .zero)) _ _ z))
-    ∙ sum-cong o _ (λ l. o .times (o .times a (d (0 + suc l))) (x (suc l))) (λ l. o .times (o .times (o .one) (d (0 + suc l))) (o .one)) n (λ l m. let e = ones (suc l) (omega arith) in cc)
+    ∙ sum-same o _ (λ l. o .times (o .times a (d (0 + suc l))) (x (suc l))) (λ l. o .times (o .times (o .one) (d (0 + suc l))) (o .one)) n (λ l m. let e = ones (suc l) (omega arith) in cc)
 
 module _ {M : Type 0} (o : Ops M) (r : Ring o) where
   -- ---- sums
@@ -36,7 +37,7 @@ module _ {M : Type 0} (o : Ops M) (r : Ring o) where
   sum-upto : (f g : ℕ → M) (m n : ℕ) → m ≤ n → ((l : ℕ) → l < m → f l ≡ g l) → ((l : ℕ) → m ≤ l → f l ≡ o .zero) → sum o f n ≡ sum o g m
   sum-upto f g m zero h same none = let e : m ≡ 0 = omega arith in rw e refl
   sum-upto f g m (suc n) h same none = elim (cases-lt n m) [
-    | inl all ↦ let e : m ≡ suc n = omega arith in ap (sum o f) (sym e) ∙ sum-cong o (o .zero) f g m same
+    | inl all ↦ let e : m ≡ suc n = omega arith in ap (sum o f) (sym e) ∙ sum-same o (o .zero) f g m same
     | inr less ↦ ap₂ (o .plus) (sum-upto f g m n less same none) (none n less) ∙ r .plus-zero (sum o g m)
   ]
 
@@ -74,12 +75,12 @@ module _ {M : Type 0} (o : Ops M) (r : Ring o) where
       let last : transposed o k (k + 1) (k + 2) ≡ o .minus (o .one) =
       low-row k (k + 1) (k + 2) (omega arith) ∙ cond-true (eqb (k + 1) (k + 1) && eqb (k + 2) (k + 2)) _ _ (and-from _ _ (eq-eqb (k + 1) (k + 1) refl) (eq-eqb (k + 2) (k + 2) refl)) in
       let none : sum o f (k + 2) ≡ o .zero =
-      sum-cong o (o .zero) f (λ l. o .zero) (k + 2)
+      sum-same o (o .zero) f (λ l. o .zero) (k + 2)
       (λ l low. ap (o .times (x l)) (low-row k (k + 1) l (omega arith) ∙ cond-false (eqb (k + 1) (k + 1) && eqb l (k + 2)) _ _ (and-right _ _ (ne-eqb l (k + 2) (λ e. omega arith)))) ∙ times-zero r (x l))
       ∙ sum-upto (λ l. o .zero) x 0 (k + 2) (omega arith) (λ l low. absurd (omega arith)) (λ l high. refl) in
       let more : k + 3 ≡ k + 2 + 1 = omega arith in
       multiplied-in o x (k + 3) (transposed o k) (k + 1) (omega arith)
-      ∙ ap (sum o f) more ∙ sum-more o (o .zero) f (k + 2)
+      ∙ ap (sum o f) more ∙ sum-next o (o .zero) f (k + 2)
       ∙ ap₂ (o .plus) none (ap (o .times (x (k + 2))) last ∙ times-minus-one (x (k + 2)))
       ∙ zero-plus r (o .minus (x (k + 2)))
 
@@ -95,5 +96,5 @@ module _ {M : Type 0} (o : Ops M) (r : Ring o) where
   ones-sum z x zero some = absurd (omega arith)
   ones-sum z x (suc n) some =
       ap (λ w. sum-from o w (λ l. o .times (o .times (o .one) (x (0 + suc l))) (o .one)) n) (cond-true (o .isZero (o .zero)) _ _ z ∙ one-times (x 0))
-      ∙ sum-cong o (x 0) (λ l. o .times (o .times (o .one) (x (0 + suc l))) (o .one)) (λ l. x (suc l)) n (λ l m. let e : 0 + suc l ≡ suc l = omega arith in one-times (x (0 + suc l)) ∙ ap x e)
+      ∙ sum-same o (x 0) (λ l. o .times (o .times (o .one) (x (0 + suc l))) (o .one)) (λ l. x (suc l)) n (λ l m. let e : 0 + suc l ≡ suc l = omega arith in one-times (x (0 + suc l)) ∙ ap x e)
       ∙ sum-front x n

@@ -2,7 +2,6 @@
 //! a small matrix, the update of the differences, and the transposes of both.
 mod matrix;
 pub mod multiply;
-mod place;
 mod tile;
 mod total;
 pub mod transpose;

@@ -1,8 +1,7 @@
 //! The first columns of every row times a small matrix.
 ghost use mathlib.Core.Path.{_≡_};
-ghost use mathlib.Core.Bool.{false};
 ghost use mathlib.Core.List.{map};
-ghost use Prim.Native.Nat.{ℕ, _*_};
+ghost use Prim.Native.Nat.{_*_};
 ghost use lib.ListN.{length};
 ghost use Rattle.scalar.specs.Ops.{Ops};
 ghost use Rattle.shape.specs.Refusals.{answer, firstOf};

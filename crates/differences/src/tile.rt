@@ -10,8 +10,8 @@ ghost use Rattle.differences.specs.Matrices.{Small};
 ghost use Rattle.differences.specs.MulCols.{MulColsLawful, cellMultiplied};
 ghost use Rattle.differences.specs.Tiles.{Within, InTile, Staged, stagedProduct};
 use crate::matrix::Matrix;
-use crate::place::start_of;
 use scalar::Scalar;
+use shape::Column;
 use shape::TableShape;
 
 /// Rows `row` to `row + height − 1` of one lane.
@@ -30,7 +30,8 @@ impl Tile {
         requires col { ⌜ col < t .cols ⌝ }
         ensures { λ r. ⌜ r ≡ cell t (self .lane) col (self .row) ⌝ }
     {
-        start_of(t, self.lane, col) + self.row
+        let column = Column { of: t, col };
+        column.start(self.lane) + self.row
     }
 }
 

@@ -1,7 +1,6 @@
 //! The transpose of the update of a table of backward differences.
 ghost use mathlib.Core.Path.{_≡_};
-ghost use mathlib.Core.Bool.{Bool, false};
-ghost use Prim.Native.Nat.{ℕ, _+_};
+ghost use Prim.Native.Nat.{_+_};
 ghost use lib.ListN.{length};
 ghost use Rattle.scalar.specs.Ops.{Ops};
 ghost use Rattle.shape.specs.Refusals.{answer, firstOf};

@@ -1,6 +1,5 @@
 //! The update of a table of backward differences by a new difference d.
 ghost use mathlib.Core.Path.{_≡_};
-ghost use mathlib.Core.Bool.{Bool, false};
 ghost use mathlib.Core.List.{List};
 ghost use Prim.Native.Nat.{ℕ, _+_, _-_, _<_, _≤_};
 ghost use lib.Dec.{leb};
@@ -11,8 +10,6 @@ ghost use Rattle.shape.specs.Shapes.{Fits};
 ghost use Rattle.shape.specs.Refusals.{answer, firstOf};
 ghost use Rattle.shape.specs.Changes.{Changed, RunChanged, LaneBand, meant};
 ghost use Rattle.differences.specs.Updates.{updateTests, UpdateLawful, Updated, Accumulated, cellUpdatedBy};
-use crate::place::start_of;
-use crate::place::start_read;
 use scalar::Scalar;
 use shape::Column;
 use shape::Refusal;
@@ -21,6 +18,7 @@ use shape::check::misfits;
 use shape::check::no_column;
 use shape::check::no_lanes;
 use shape::check::too_large;
+use shape::lanes::lane_for;
 use shape::lanes::no_broadcast;
 
 /// order + 2 is not below the columns; asked without the sum, which could wrap.
@@ -119,7 +117,9 @@ fn gain_column<S: Scalar>(t: TableShape, ts: &mut [S], lane: usize, j: usize)
     requires within { ⌜ j + 1 < t .cols ⌝ }
     ensures { λ _. ⌜ ((n m : ℕ) (old : List S) → Accumulated means ops t lane n m old (now (ts .entry)) → m ≡ j + 1 → j < n → length (now (ts .entry)) ≡ length old → Accumulated means ops t lane n j old (now (ts .exit))) ⌝ }
 {
-    gain_run(ts, start_of(t, lane, j), start_of(t, lane, j + 1), t.rows);
+    let left = Column { of: t, col: j };
+    let right = Column { of: t, col: j + 1 };
+    gain_run(ts, left.start(lane), right.start(lane), t.rows);
 }
 
 /// In one lane the columns left of column n gain their right neighbour, from the last down to 0.
@@ -149,8 +149,15 @@ fn update_lane<S: Scalar>(
     requires source { ⌜ from + t .rows ≤ length (now ds) ⌝ }
     ensures { λ _. ⌜ Changed t (LaneBand lane 0 (order + 3)) (meant means (cellUpdatedBy means ops t order (now (ds .entry)) from (now (ts .entry)))) (now (ts .entry)) (now (ts .exit)) ⌝ }
 {
-    let to = start_of(t, lane, order + 2);
-    difference_run(ts, to, start_of(t, lane, order + 1), t.rows, ds, from);
+    let last = Column {
+        of: t,
+        col: order + 2,
+    };
+    let before = Column {
+        of: t,
+        col: order + 1,
+    };
+    difference_run(ts, last.start(lane), before.start(lane), t.rows, ds, from);
     accumulate_lane(t, ts, lane, order + 2);
 }
 
@@ -159,7 +166,7 @@ fn update_lanes<S: Scalar>(t: TableShape, ts: &mut [S], order: usize, d: Column,
     ensures { λ _. ⌜ Updated means ops t order d (now (ds .entry)) (now (ts .entry)) (now (ts .exit)) ⌝ }
 {
     for lane in 0..t.lanes {
-        let from = start_read(d, lane, t.lanes);
+        let from = d.start(lane_for(lane, d.of.lanes, t.lanes));
         update_lane(t, ts, lane, order, ds, from);
     }
 }

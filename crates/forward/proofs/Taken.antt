@@ -9,7 +9,9 @@ use lib.ListN.{length, take, drop}
 use Rattle.std.proofs.shelf.Lists.{take-map, drop-map, length-map}
 use Rattle.std.proofs.shelf.Tests.{or-parts, not-false, leb-true, le-leb, eqb-true, cond-false, true≢false}
 use Rattle.scalar.specs.Ops.{Ops}
-use Rattle.shape.specs.Refusals.{firstOf}
+use Rattle.shape.specs.Refusals.{firstOf, numberOf}
+use Rattle.shape.specs.declared.refusal.Refusal.{Refusal}
+use Rattle.shape.specs.declared.refusal.Refusal.the-variants.{NoLanes, TooLarge, Memory as NoMemory, NoColumn, TooMany, Numbers, Counts, Lanes, ListLength, Index, RootsDiffer, NoStep, Malformed, TextLimit}
 use Rattle.shape.specs.declared.operand.TableShape.{TableShape}
 use Rattle.shape.proofs.Verdicts.{Clear, clear, numbered}
 use Rattle.index.specs.Indices.{outside}
@@ -142,3 +144,20 @@ first-after xs ys n e = after xs (clear xs n e)
     after : (xs : List (ℕ × Bool)) → Clear xs → firstOf (xs ++ ys) ≡ firstOf ys
     after [] p = refl
     after (x ∷ xs) p = cond-false (x .1) (x .0) (firstOf (xs ++ ys)) (p .0) ∙ after xs (p .1)
+
+-- a refusal has a number
+pub number-some : (f : Refusal) → numberOf f ≡ 0 → ⊥
+number-some NoLanes e = absurd (omega arith)
+number-some TooLarge e = absurd (omega arith)
+number-some NoMemory e = absurd (omega arith)
+number-some NoColumn e = absurd (omega arith)
+number-some TooMany e = absurd (omega arith)
+number-some Numbers e = absurd (omega arith)
+number-some Counts e = absurd (omega arith)
+number-some Lanes e = absurd (omega arith)
+number-some ListLength e = absurd (omega arith)
+number-some Index e = absurd (omega arith)
+number-some RootsDiffer e = absurd (omega arith)
+number-some NoStep e = absurd (omega arith)
+number-some Malformed e = absurd (omega arith)
+number-some TextLimit e = absurd (omega arith)

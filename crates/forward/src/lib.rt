@@ -4,3 +4,5 @@ pub mod check;
 pub mod step;
 mod tables;
 mod vectors;
+
+pub use step::step_forward;

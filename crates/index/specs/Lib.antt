@@ -2,3 +2,4 @@ pub mod Indices
 pub mod Routes
 pub mod Calls
 pub mod Transposes
+pub mod Tables

@@ -13,7 +13,7 @@ use shape::Column;
 use shape::lanes::lane_for;
 
 /// The runs of m entries of the source and of n of the destination, lent from the whole memories.
-fn route_part<S: Copy>(
+pub(crate) fn route_part<S: Copy>(
     route: Route,
     list: &[usize],
     xs: &[S],

@@ -16,6 +16,16 @@ const ROWS: usize = 2;
 
 const LANES: usize = 3;
 
+/// Rest times in whole seconds, two repeats in each lane.
+const REST: [Residue; 6] = [
+    Residue(90),
+    Residue(120),
+    Residue(75),
+    Residue(105),
+    Residue(110),
+    Residue(150),
+];
+
 fn show(rt: &LibcRuntime, when: &str, exact: &[Residue; 6], float: &[f64; 6]) -> io::Result<()> {
     for lane in 0..LANES {
         let first = exact[lane * ROWS].0;
@@ -58,26 +68,20 @@ fn judge(rt: &LibcRuntime) -> io::Result<()> {
     }
 }
 
-fn main(rt: LibcRuntime) -> io::Result<()> {
-    let mut exact = [
-        Residue(90),
-        Residue(120),
-        Residue(75),
-        Residue(105),
-        Residue(110),
-        Residue(150),
-    ];
+/// One load for every lane, and then a load whose lanes do not fit.
+fn spread_load(rt: &LibcRuntime) -> io::Result<()> {
+    let mut exact = REST;
     let mut float = [90.0, 120.0, 75.0, 105.0, 110.0, 150.0];
     let rest = Column::vector(ROWS, LANES);
     let load = Column::vector(ROWS, 1);
-    show(&rt, "before", &exact, &float)?;
+    show(rt, "before", &exact, &float)?;
     println!(
         rt,
         "rest becomes 2 load + 1 rest, one load of 10 15 for every lane"
     )?;
     let x = [Residue(10), Residue(15)];
     told(
-        &rt,
+        rt,
         axpy(
             Scale(Residue(2)),
             load,
@@ -88,7 +92,7 @@ fn main(rt: LibcRuntime) -> io::Result<()> {
         ),
     )?;
     told(
-        &rt,
+        rt,
         axpy(
             Scale(2.0),
             load,
@@ -98,14 +102,15 @@ fn main(rt: LibcRuntime) -> io::Result<()> {
             &mut float,
         ),
     )?;
-    show(&rt, "after", &exact, &float)?;
+    show(rt, "after", &exact, &float)?;
     println!(rt, "the same from a load of two lanes")?;
     let two = Column::vector(ROWS, 2);
     let xs = [10.0, 15.0, 20.0, 25.0];
-    told(
-        &rt,
-        axpy(Scale(2.0), two, &xs, Scale(1.0), rest, &mut float),
-    )?;
-    show(&rt, "still", &exact, &float)?;
+    told(rt, axpy(Scale(2.0), two, &xs, Scale(1.0), rest, &mut float))?;
+    show(rt, "still", &exact, &float)
+}
+
+fn main(rt: LibcRuntime) -> io::Result<()> {
+    spread_load(&rt)?;
     judge(&rt)
 }

@@ -3,3 +3,4 @@ pub mod Blocks
 pub mod Cells
 pub mod Parts
 pub mod Broadcast
+pub mod Passes

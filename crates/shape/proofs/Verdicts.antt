@@ -52,6 +52,14 @@ lawful-of v len lanes large size col = record { fits = fits-of (v .of) len lanes
 pub shape-passed : (t : TableShape) (len : ℕ) → firstOf (shapeTests t len) ≡ 0 → Fits t len
 shape-passed t len e = let p = clear (shapeTests t len) refl e in fits-of t len (p .0) (p .1 .0) (p .1 .1 .0)
 
+pub shapes-clear : (x : TableShape) (xl : ℕ) (y : TableShape) (yl : ℕ) → noLanes x || noLanes y ≡ false → tooLarge x || tooLarge y ≡ false → misfit x xl || misfit y yl ≡ false
+    → Fits x xl × Fits y yl
+shapes-clear x xl y yl p₁ p₂ p₃ =
+    let lanes = or-parts (noLanes x) (noLanes y) p₁ in
+    let large = or-parts (tooLarge x) (tooLarge y) p₂ in
+    let size = or-parts (misfit x xl) (misfit y yl) p₃ in
+    (fits-of x xl (lanes .0) (large .0) (size .0), fits-of y yl (lanes .1) (large .1) (size .1))
+
 pub column-passed : (v : Column) (len : ℕ) → firstOf (columnTests v len) ≡ 0 → Lawful v len
 column-passed v len e = let p = clear (columnTests v len) refl e in lawful-of v len (p .0) (p .1 .0) (p .1 .1 .0) (p .1 .1 .1 .0)
 
@@ -76,13 +84,11 @@ pair-passed x xl y yl e =
 pub tables-passed : (x : TableShape) (xl : ℕ) (y : TableShape) (yl : ℕ) → firstOf (tableTests x xl y yl) ≡ 0 → TablesLawful x xl y yl
 tables-passed x xl y yl e =
     let p = clear (tableTests x xl y yl) refl e in
-    let lanes = or-parts (noLanes x) (noLanes y) (p .0) in
-    let large = or-parts (tooLarge x) (tooLarge y) (p .1 .0) in
-    let size = or-parts (misfit x xl) (misfit y yl) (p .1 .1 .0) in
+    let fit = shapes-clear x xl y yl (p .0) (p .1 .0) (p .1 .1 .0) in
     let counts = or-parts (not (eqb (x .rows) (y .rows))) (not (eqb (x .cols) (y .cols))) (p .1 .1 .1 .0) in
     record {
-      source = fits-of x xl (lanes .0) (large .0) (size .0);
-      target = fits-of y yl (lanes .1) (large .1) (size .1);
+      source = fit .0;
+      target = fit .1;
       rows = eqb-true _ _ (not-false _ (counts .0));
       cols = eqb-true _ _ (not-false _ (counts .1));
       lanes = p .1 .1 .1 .1 .0;

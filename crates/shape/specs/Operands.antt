@@ -13,7 +13,11 @@ use Rattle.shape.specs.declared.operand.Column.{Column}
 abbrev pub shapeTests : TableShape → ℕ → List (ℕ × Bool)
 shapeTests t len = (1, noLanes t) ∷ (2, tooLarge t) ∷ (3, misfit t len) ∷ []
 
--- a column of it
+-- two tables, each in its memory
+abbrev pub shapesTests : TableShape → ℕ → TableShape → ℕ → List (ℕ × Bool)
+shapesTests x xl y yl = (1, noLanes x || noLanes y) ∷ (2, tooLarge x || tooLarge y) ∷ (3, misfit x xl || misfit y yl) ∷ []
+
+-- a column of a table
 abbrev pub columnTests : Column → ℕ → List (ℕ × Bool)
 columnTests v len = (1, noLanes (v .of)) ∷ (2, tooLarge (v .of)) ∷ (3, misfit (v .of) len) ∷ (4, noColumn v) ∷ []
 

@@ -77,6 +77,22 @@ pub fn check_column(v: Column, len: usize) -> Result<(), Refusal>
     test_column(v, len)
 }
 
+/// The tests of the numbers 1 to 3 over every shape that is named with its memory's length.
+#[macro_export]
+macro_rules! refuse_shapes {
+    ($($t:expr, $len:expr);+) => {
+        if $($crate::check::no_lanes($t))|+ {
+            return Err($crate::Refusal::NoLanes);
+        }
+        if $($crate::check::too_large($t))|+ {
+            return Err($crate::Refusal::TooLarge);
+        }
+        if $($crate::check::misfits($t, $len))|+ {
+            return Err($crate::Refusal::Memory);
+        }
+    };
+}
+
 /// The tests of the numbers 1 to 4 over every column operand that is named with its memory's
 /// length: one text for calls of any number of operands.
 #[macro_export]
@@ -136,15 +152,7 @@ pub fn check_pair(x: Column, x_len: usize, y: Column, y_len: usize) -> Result<()
 fn test_tables(x: TableShape, x_len: usize, y: TableShape, y_len: usize) -> Result<(), Refusal>
     ensures { λ r. ⌜ answer r ≡ firstOf (tableTests x «x_len» y «y_len») ⌝ }
 {
-    if no_lanes(x) | no_lanes(y) {
-        return Err(Refusal::NoLanes);
-    }
-    if too_large(x) | too_large(y) {
-        return Err(Refusal::TooLarge);
-    }
-    if misfits(x, x_len) | misfits(y, y_len) {
-        return Err(Refusal::Memory);
-    }
+    refuse_shapes!(x, x_len; y, y_len);
     if (x.rows != y.rows) | (x.cols != y.cols) {
         return Err(Refusal::Counts);
     }

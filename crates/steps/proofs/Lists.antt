@@ -2,57 +2,25 @@
 use mathlib.Core.Path.{_≡_, refl, sym, ap, _∙_}
 use mathlib.Core.Logic.{_≢_}
 use mathlib.Core.Bool.{true, false, cond}
-use mathlib.Core.List.{List, [], _∷_, _++_}
+use mathlib.Core.List.{List, [], _∷_}
 use Prim.Native.Nat.{ℕ, suc, _+_, _<_, _≤_}
 use native.Mathlib.Omega.{arith}
 use lib.Dec.{eqb}
-use lib.ListN.{length, getD, take, drop}
-use lib.Seq.{drop-cons}
-use Rattle.std.proofs.shelf.Lists.{take-more, length-take}
+use lib.ListN.{length, getD}
 use Rattle.std.proofs.shelf.Ways.{tells}
 use Rattle.scalar.specs.Ops.{Ops, Ring}
 use Rattle.scalar.specs.Sums.{sum}
+use Rattle.scalar.proofs.SumLaws.{sum-same}
 use Rattle.scalar.proofs.RingLaws.{zero-plus, times-zero}
 use Rattle.index.specs.Indices.{outside, settled}
 use Rattle.index.specs.Transposes.{put, scatteredBack, gatheredBack}
-use Rattle.steps.proofs.Sums.{sum-same, plus-assoc, plus-comm, times-plus, sum-zero, sum-gain, sum-front, sorts}
+use Rattle.steps.proofs.Sums.{plus-assoc, plus-comm, times-plus, sum-zero, sum-gain, sum-front, sorts}
 
 pub put-same : {A : Type 0} (f : ℕ → A) (k : ℕ) (x : A) → put f k x k ≡ x
 put-same f k x = let a : eqb k k ≡ true = grind (arith, tells) in ap (λ z. cond z x (f k)) a
 
 pub put-other : {A : Type 0} (f : ℕ → A) (k : ℕ) (x : A) (l : ℕ) → l ≢ k → put f k x l ≡ f l
 put-other f k x l h = let a : eqb k l ≡ false = grind (arith, tells) in ap (λ z. cond z x (f l)) a
-
--- ---- one entry more, for a loop over the list
-
-module _ {M : Type 0} (o : Ops M) where
-  gathered-push : (ks : List ℕ) (k i : ℕ) (p q : ℕ → M)
-      → gatheredBack o (ks ++ (k ∷ [])) i p q ≡ put (gatheredBack o ks i p q) k (o .plus (gatheredBack o ks i p q k) (p (i + length ks)))
-  gathered-push [] k i p q = let e : i ≡ i + 0 = omega arith in ap (λ m. put q k (o .plus (q k) (p m))) e
-  gathered-push (j ∷ ks) k i p q =
-      let e : suc i + length ks ≡ i + suc (length ks) = omega arith in
-      let g = gatheredBack o ks (suc i) p (put q j (o .plus (q j) (p i))) in
-      gathered-push ks k (suc i) p (put q j (o .plus (q j) (p i))) ∙ ap (λ m. put g k (o .plus (g k) (p m))) e
-
-  -- forward through the list: entry i
-  pub gathered-more : (ks : List ℕ) (i : ℕ) (p q : ℕ → M) → i < length ks
-      → gatheredBack o (take (i + 1) ks) 0 p q
-      ≡ put (gatheredBack o (take i ks) 0 p q) (getD ks i 0) (o .plus (gatheredBack o (take i ks) 0 p q (getD ks i 0)) (p i))
-  gathered-more ks i p q h =
-      let long : 0 + length (take i ks) ≡ i = simp length-take (omega arith) in
-      let g = gatheredBack o (take i ks) 0 p q in
-      ap (λ l. gatheredBack o l 0 p q) (take-more ks i 0 h) ∙ gathered-push (take i ks) (getD ks i 0) 0 p q
-      ∙ ap (λ m. put g (getD ks i 0) (o .plus (g (getD ks i 0)) (p m))) long
-
-  -- backward through the list: entry i after those from i + 1 on
-  pub scattered-back-more : (ks : List ℕ) (i : ℕ) (p q : ℕ → M) → i < length ks
-      → scatteredBack o (drop i ks) i p q
-      ≡ (let w = scatteredBack o (drop (i + 1) ks) (i + 1) p q in
-      (put (w .0) i (o .plus (w .0 i) (w .1 (getD ks i 0))), put (w .1) (getD ks i 0) (o .zero)))
-  scattered-back-more ks i p q h =
-      let next : i + 1 ≡ suc i = omega arith in
-      ap (λ l. scatteredBack o l i p q) (drop-cons ks i 0 h)
-      ∙ ap (λ m. let w = scatteredBack o (drop m ks) m p q in (put (w .0) i (o .plus (w .0 i) (w .1 (getD ks i 0))), put (w .1) (getD ks i 0) (o .zero))) (sym next)
 
 module _ {M : Type 0} {o : Ops M} (𝓡 : Ring o) where
   infixl 60 _⊕_

@@ -3,8 +3,9 @@ use mathlib.Core.Path.{_≡_, refl, sym, ap, _∙_}
 use Prim.Native.Nat.{ℕ, zero, suc, _<_}
 use Rattle.scalar.specs.Ops.{Ops, Ring}
 use Rattle.scalar.specs.Sums.{sum, sum-from}
+use Rattle.scalar.proofs.SumLaws.{sum-same}
 use Rattle.steps.specs.States.{Lane, pairing, columnsFrom}
-use Rattle.steps.proofs.Sums.{sum-same, plus-assoc, from-sum, sum-plus, sum-swap}
+use Rattle.steps.proofs.Sums.{plus-assoc, from-sum, sum-plus, sum-swap}
 
 module _ {M : Type 0} {o : Ops M} (𝓡 : Ring o) where
   infixl 60 _⊕_

@@ -1,4 +1,4 @@
--- Sums of scalars: the same terms over any scalar, and the laws of finite sums over a ring. Assumes nothing.
+-- The laws of finite sums over a ring. Assumes nothing.
 use mathlib.Core.Path.{_≡_, refl, sym, ap, subst, _∙_}
 use mathlib.Core.Logic.{_≢_, ⊎-elim}
 use Prim.Native.Nat.{ℕ, zero, suc, _<_, _≤_}
@@ -6,16 +6,9 @@ use native.Mathlib.Nat.{eq-or-lt-of-le}
 use native.Mathlib.Omega.{arith}
 use Rattle.scalar.specs.Ops.{Ops, Ring}
 use Rattle.scalar.specs.Sums.{sum, sum-from}
+use Rattle.scalar.proofs.SumLaws.{sum-same}
 use Rattle.scalar.proofs.RingLaws as law
 use Rattle.scalar.proofs.RingLaws.{times-zero, plus-swap}
-
-module _ {M : Type 0} (o : Ops M) where
-  pub sum-same : (a : M) (f g : ℕ → M) (n : ℕ) → ((k : ℕ) → k < n → f k ≡ g k) → sum-from o a f n ≡ sum-from o a g n
-  sum-same a f g zero h = refl
-  sum-same a f g (suc n) h =
-      let e = sum-same a f g n (λ k l. h k (omega arith)) in
-      let t = h n (omega arith) in
-      cc
 
 module _ {M : Type 0} {o : Ops M} (𝓡 : Ring o) where
   infixl 60 _⊕_
@@ -117,15 +110,6 @@ module _ {M : Type 0} {o : Ops M} (𝓡 : Ring o) where
   pub sum-front : (f : ℕ → M) (n : ℕ) → sum o f (suc n) ≡ f 0 ⊕ sum o (λ k. f (suc k)) n
   sum-front f zero = plus-comm (o .zero) (f 0)
   sum-front f (suc n) = ap (λ y. y ⊕ f (suc n)) (sum-front f n) ∙ plus-assoc (f 0) (sum o (λ k. f (suc k)) n) (f (suc n))
-
-  -- zeros from m on
-  pub sum-cut : (f : ℕ → M) (m n : ℕ) → m ≤ n → ((k : ℕ) → m ≤ k → f k ≡ o .zero) → sum o f n ≡ sum o f m
-  sum-cut f m zero h z = let q : 0 ≡ m = omega arith in ap (sum o f) q
-  sum-cut f m (suc n) h z =
-      ⊎-elim
-      (λ q. ap (sum o f) (sym q))
-      (λ l. ap (λ y. sum o f n ⊕ y) (z n (omega arith)) ∙ 𝓡 .plus-zero (sum o f n) ∙ sum-cut f m n (omega arith) z)
-      (eq-or-lt-of-le {n = m} {m = suc n} h)
 
   -- the same terms from m on
   pub sum-below : (f g : ℕ → M) (x : M) (m n : ℕ) → m ≤ n → sum o f m ≡ sum o g m ⊕ x → ((k : ℕ) → m ≤ k → f k ≡ g k) → sum o f n ≡ sum o g n ⊕ x

@@ -1,44 +1,34 @@
 -- The difference update of a row, and that its transpose carries the weights back. Assumes nothing.
 use mathlib.Core.Path.{_≡_, sym, ap, _∙_}
-use mathlib.Core.Logic.{_≢_}
-use mathlib.Core.Bool.{true, cond}
 use Prim.Native.Nat.{ℕ, zero, suc, _+_, _-_, _<_, _≤_}
 use native.Mathlib.Omega.{arith}
-use native.Mathlib.Numerals.{add-one, add-three}
-use lib.Dec.{leb}
+use native.Mathlib.Numerals.{add-one, add-two, add-three}
 use Rattle.std.proofs.shelf.Ways.{tells}
 use Rattle.scalar.specs.Ops.{Ops, Ring}
 use Rattle.scalar.specs.Sums.{sum}
+use Rattle.scalar.proofs.SumLaws.{sum-same}
 use Rattle.scalar.proofs.RingLaws.{zero-plus, times-zero}
 use Rattle.differences.specs.Rows.{updated, scanned, transposed, multiplied}
+use Rattle.differences.proofs.RowLaws.{updated-in, updated-last}
+use Rattle.differences.proofs.TransposeLaws.{transposed-sums, transposed-negated, transposed-cleared}
 use Rattle.steps.specs.Actions.{total}
-use Rattle.steps.proofs.Sums.{sum-same, plus-assoc, times-plus, plus-times, zero-times, times-minus, sum-zero, sum-gain, sum-cut, sum-below, sorts, ring}
-use Rattle.steps.proofs.Products.{multiplied-inside, multiplied-past, total-sum}
+use Rattle.steps.proofs.Sums.{plus-assoc, times-plus, plus-times, zero-times, times-minus, sum-below, sorts, ring}
+use Rattle.steps.proofs.Products.{multiplied-past, total-sum}
 
 module _ {M : Type 0} (o : Ops M) where
   -- column j below k + 2 gains the new column j + 1
-  updated-step : (x : ℕ → M) (d : M) (k j : ℕ) → j < suc (suc k) → updated o x d k j ≡ o .plus (x j) (updated o x d k (suc j))
+  updated-step : (x : ℕ → M) (d : M) (k j : ℕ) → j < k + 2 → updated o x d k j ≡ o .plus (x j) (updated o x d k (suc j))
   updated-step x d k j h =
-      let a : leb j (k + 2) ≡ true = grind (arith, tells) in
-      let b : leb (suc j) (k + 2) ≡ true = grind (arith, tells) in
       let t : k + 2 - j ≡ suc (k + 1 - j) = omega arith in
       let q : k + 1 - (k + 1 - j) ≡ j = omega arith in
-      let v : k + 2 - suc j ≡ k + 1 - j = omega arith in
-      ap (λ z. cond z (scanned o x d k (k + 2 - j)) (x j)) a
+      let v : k + 1 - j ≡ k + 2 - suc j = omega arith in
+      updated-in o x d k j (omega arith)
       ∙ ap (scanned o x d k) t
       ∙ ap (λ z. o .plus (x z) (scanned o x d k (k + 1 - j))) q
-      ∙ ap (λ z. o .plus (x j) (scanned o x d k z)) (sym v)
-      ∙ ap (λ z. o .plus (x j) (cond z (scanned o x d k (k + 2 - suc j)) (x (suc j)))) (sym b)
+      ∙ ap (λ z. o .plus (x j) (scanned o x d k z)) v
+      ∙ ap (λ z. o .plus (x j) z) (sym (updated-in o x d k (suc j) (omega arith)))
 
-  updated-top : (x : ℕ → M) (d : M) (k : ℕ) → updated o x d k (suc (suc k)) ≡ o .plus d (o .minus (x (suc k)))
-  updated-top x d k =
-      let a : leb (suc (suc k)) (k + 2) ≡ true = grind (arith, tells) in
-      let t : k + 2 - suc (suc k) ≡ 0 = omega arith in
-      ap (λ z. cond z (scanned o x d k (k + 2 - suc (suc k))) (x (suc (suc k)))) a
-      ∙ ap (scanned o x d k) t
-      ∙ ap (λ z. o .plus d (o .minus (x z))) (add-one k)
-
-  updated-past : (x : ℕ → M) (d : M) (k j : ℕ) → suc (suc (suc k)) ≤ j → updated o x d k j ≡ x j
+  updated-past : (x : ℕ → M) (d : M) (k j : ℕ) → k + 3 ≤ j → updated o x d k j ≡ x j
   updated-past x d k j h = grind (arith, tells)
 
 module _ {M : Type 0} {o : Ops M} (𝓡 : Ring o) where
@@ -104,39 +94,6 @@ module _ {M : Type 0} {o : Ops M} (𝓡 : Ring o) where
       ∙ top-column S (x (suc k)) W (e K) d
       ∙ ap (λ z. z ⊕ d ⊗ (W ⊕ e K)) (sym carried)
 
-  -- ---- the transpose's matrix gives these columns
-
-  ones-below : (e m : ℕ → M) (j n : ℕ) → j ≤ n → ((l : ℕ) → l < j → m l ≡ o .one) → ((l : ℕ) → j ≤ l → m l ≡ o .zero) → sum o (λ l. e l ⊗ m l) n ≡ sum o e j
-  ones-below e m j n h ones zeros =
-      sum-cut 𝓡 (λ l. e l ⊗ m l) j n h (λ l g. ap (λ z. e l ⊗ z) (zeros l g) ∙ times-zero 𝓡 (e l))
-      ∙ sum-same o (o .zero) (λ l. e l ⊗ m l) e j (λ l g. ap (λ z. e l ⊗ z) (ones l g) ∙ 𝓡 .times-one (e l))
-
-  -- column j at most k: the sum of the columns 0 to j
-  pub transposed-low : (e : ℕ → M) (k j : ℕ) → j < suc k → multiplied o e (k + 3) (transposed o k) j ≡ sum o e (suc j)
-  transposed-low e k j h =
-      multiplied-inside o e (k + 3) (transposed o k) j (omega arith)
-      ∙ ones-below e (transposed o k j) (suc j) (k + 3) (omega arith) (λ l g. grind (arith, tells)) (λ l g. grind (arith, tells))
-
-  -- column k + 1: the negated column k + 2
-  pub transposed-mid : (e : ℕ → M) (k : ℕ) → multiplied o e (k + 3) (transposed o k) (suc k) ≡ o .minus (e (suc (suc k)))
-  transposed-mid e k =
-      let K = suc (suc k) in
-      let f : ℕ → M = λ l. e l ⊗ transposed o k (suc k) l in
-      let none : (l : ℕ) → l ≢ suc (suc k) → transposed o k (suc k) l ≡ o .zero = λ l g. grind (arith, tells) in
-      let here : transposed o k (suc k) (suc (suc k)) ≡ o .minus (o .one) = grind (arith, tells) in
-      multiplied-inside o e (k + 3) (transposed o k) (suc k) (omega arith)
-      ∙ sum-gain 𝓡 f (λ l. o .zero) (o .minus (e K)) K (k + 3) (omega arith)
-      (ap (λ z. e K ⊗ z) here ∙ times-minus 𝓡 (e K) (o .one) ∙ 𝓡 .times-one (o .minus (e K)) ∙ sym (zero-plus 𝓡 (o .minus (e K))))
-      (λ l g. ap (λ z. e l ⊗ z) (none l g) ∙ times-zero 𝓡 (e l))
-      ∙ ap (λ z. z ⊕ o .minus (e K)) (sum-zero 𝓡 (k + 3))
-      ∙ zero-plus 𝓡 (o .minus (e K))
-
-  -- column k + 2: zero
-  pub transposed-high : (e : ℕ → M) (k : ℕ) → multiplied o e (k + 3) (transposed o k) (suc (suc k)) ≡ o .zero
-  transposed-high e k =
-      multiplied-inside o e (k + 3) (transposed o k) (suc (suc k)) (omega arith)
-      ∙ ones-below e (transposed o k (suc (suc k))) 0 (k + 3) (omega arith) (λ l g. absurd (omega arith)) (λ l g. grind (arith, tells))
-
   -- ---- a row of the update
 
   pub update-row : (c k : ℕ) → k + 2 < c → (x e : ℕ → M) (d p R : M)
@@ -145,12 +102,16 @@ module _ {M : Type 0} {o : Ops M} (𝓡 : Ring o) where
   update-row c k h x e d p R =
       let W = sum o e (suc (suc (suc k))) in
       let E : ℕ → M = multiplied o e (k + 3) (transposed o k) in
+      let y : ℕ → M = updated o x d k in
       let S = sum o (λ j. x j ⊗ E j) c in
-      let above : (j : ℕ) → suc (suc (suc k)) ≤ j → updated o x d k j ⊗ e j ≡ x j ⊗ E j =
-      λ j g. ap (λ z. z ⊗ e j) (updated-past o x d k j g) ∙ ap (λ z. x j ⊗ z) (sym (multiplied-past o e (k + 3) (transposed o k) j (omega arith))) in
-      let all : sum o (λ j. updated o x d k j ⊗ e j) c ≡ S ⊕ d ⊗ W =
-      sum-below 𝓡 (λ j. updated o x d k j ⊗ e j) (λ j. x j ⊗ E j) (d ⊗ W) (suc (suc (suc k))) c (omega arith)
-      (update-sum x (updated o x d k) e E d k (updated-step o x d k) (updated-top o x d k) (transposed-low e k) (transposed-mid e k) (transposed-high e k)) above in
+      let top : y (suc (suc k)) ≡ d ⊕ o .minus (x (suc k)) = ap y (sym (add-two k)) ∙ updated-last o x d k ∙ ap (λ z. d ⊕ o .minus (x z)) (add-one k) in
+      let low : (j : ℕ) → j < suc k → E j ≡ sum o e (suc j) = λ j l. transposed-sums o 𝓡 e k j (omega arith) ∙ ap (sum o e) (add-one j) in
+      let mid : E (suc k) ≡ o .minus (e (suc (suc k))) = ap E (sym (add-one k)) ∙ transposed-negated o 𝓡 e k ∙ ap (λ z. o .minus (e z)) (add-two k) in
+      let high : E (suc (suc k)) ≡ o .zero = ap E (sym (add-two k)) ∙ transposed-cleared o 𝓡 e k in
+      let all : sum o (λ j. y j ⊗ e j) c ≡ S ⊕ d ⊗ W =
+      sum-below 𝓡 (λ j. y j ⊗ e j) (λ j. x j ⊗ E j) (d ⊗ W) (suc (suc (suc k))) c (omega arith)
+      (update-sum x y e E d k (λ j l. updated-step o x d k j (omega arith)) top low mid high)
+      (λ j g. ap (λ z. z ⊗ e j) (updated-past o x d k j (omega arith)) ∙ ap (λ z. x j ⊗ z) (sym (multiplied-past o e (k + 3) (transposed o k) j (omega arith)))) in
       let w : total o e (k + 3) ≡ W = total-sum 𝓡 e (k + 3) ∙ ap (sum o e) (add-three k) in
       ap (λ z. z ⊕ (d ⊗ p ⊕ R)) all ∙ shift S (d ⊗ W) (d ⊗ p) R ∙ ap (λ z. S ⊕ (z ⊕ R)) (sym (times-plus 𝓡 d p W)) ∙ ap (λ z. S ⊕ (d ⊗ (p ⊕ z) ⊕ R)) (sym w)
     where

@@ -1,9 +1,6 @@
-use mathlib.Core.Path.{_≡_, _∙_}
-use mathlib.Core.Logic.{inl, inr}
-use Prim.Native.Nat.{ℕ, _+_}
+use mathlib.Core.Path.{_∙_}
 use native.Mathlib.Omega.{arith}
-use Rattle.std.proofs.shelf.Tests.{cases-eq}
-use Rattle.shape.specs.Changes.{LaneBand, LanesBand}
+use Rattle.shape.specs.Changes.{LanesBand}
 use Rattle.shape.proofs.Cells.{lanes-none, lanes-all}
 use Rattle.differences.proofs.Pieces.{lane-more}
 use Rattle.differences.proofs.MulColsLaws.{multiplied-kept}

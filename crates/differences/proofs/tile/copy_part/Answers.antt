@@ -1,6 +1,6 @@
-use mathlib.Core.Path.{_≡_, ap, _∙_}
+use mathlib.Core.Path.{ap, _∙_}
 use native.Mathlib.Omega.{arith}
-use lib.ListN.{length, getD}
+use lib.ListN.{getD}
 use Rattle.std.proofs.shelf.Lists.{getD-default}
 use Rattle.shape.proofs.Parts.{part-get, length-part, part-changed}
 use Rattle.differences.proofs.tile.copy_part.Needs as need

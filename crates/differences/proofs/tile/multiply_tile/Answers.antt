@@ -1,9 +1,8 @@
-use mathlib.Core.Path.{_≡_, refl, sym, ap, _∙_}
+use mathlib.Core.Path.{_≡_, sym, ap, _∙_}
 use mathlib.Core.List.{map}
-use Prim.Native.Nat.{ℕ, _+_, _-_, _*_, _<_}
+use Prim.Native.Nat.{_+_, _-_, _*_}
 use native.Mathlib.Omega.{arith}
 use lib.ListN.{length, getD}
-use Rattle.scalar.specs.Sums.{at}
 use Rattle.scalar.proofs.Stored.{at-same}
 use Rattle.shape.specs.Shapes.{cell}
 use Rattle.shape.proofs.Blocks.{cell-fits, block-fits}

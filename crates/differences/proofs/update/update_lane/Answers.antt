@@ -1,6 +1,6 @@
 use mathlib.Core.Path.{_≡_, sym, ap, _∙_}
 use mathlib.Core.Logic.{inl, inr}
-use Prim.Native.Nat.{ℕ, _+_, _-_, _<_}
+use Prim.Native.Nat.{ℕ, _+_, _-_}
 use native.Mathlib.Omega.{arith}
 use lib.ListN.{length}
 use Rattle.std.proofs.shelf.Tests.{cases-eq}
@@ -22,8 +22,8 @@ difference-run-requires g c κs =
     let len = length (c .args .ts .now) in
     let lane = c .args .lane in
     let k = c .args .order in
-    let to = c .start-of-to .ensures len (c .pre .fits) (omega arith) (c .pre .lane) in
-    let less = c .start-of .ensures len (c .pre .fits) (omega arith) (c .pre .lane) in
+    let to = c .start .ensures len (record { fits = c .pre .fits; within = c .pre .within }) (c .pre .lane) in
+    let less = c .start-2 .ensures len (record { fits = c .pre .fits; within = omega arith }) (c .pre .lane) in
     let next : start t lane (k + 1 + 1) ≡ start t lane (k + 1) + t .rows = start-next t lane (k + 1) in
     let same : start t lane (k + 1 + 1) ≡ start t lane (k + 2) = let e : k + 1 + 1 ≡ k + 2 = omega arith in ap (start t lane) e in
     let f = band-fits t len lane (k + 2) 1 (c .pre .fits) (c .pre .lane) (omega arith) in
@@ -41,10 +41,10 @@ returns g c =
     let old = c .args .ts .now in
     let mid = c .difference-run .last .ts in
     let ds = c .args .ds .now in
-    let to : c .start-of-to .result ≡ start t lane (k + 2) = c .start-of-to .ensures (length old) (c .pre .fits) (omega arith) (c .pre .lane) in
-    let less : c .start-of .result ≡ start t lane (k + 1) = c .start-of .ensures (length old) (c .pre .fits) (omega arith) (c .pre .lane) in
+    let to : c .start .result ≡ start t lane (k + 2) = c .start .ensures (length old) (record { fits = c .pre .fits; within = c .pre .within }) (c .pre .lane) in
+    let less : c .start-2 .result ≡ start t lane (k + 1) = c .start-2 .ensures (length old) (record { fits = c .pre .fits; within = omega arith }) (c .pre .lane) in
     let new = cellUpdatedBy (s .means) (s .ops) t k ds (c .args .from) old in
-    let before : (b i : ℕ) → b ≡ lane → at (s .means) (s .ops) old (c .start-of .result + i) ≡ rowOf (s .means) (s .ops) t old b i (k + 1) =
+    let before : (b i : ℕ) → b ≡ lane → at (s .means) (s .ops) old (c .start-2 .result + i) ≡ rowOf (s .means) (s .ops) t old b i (k + 1) =
     λ b i e. ap (λ z. at (s .means) (s .ops) old (z + i)) less ∙ ap (λ z. at (s .means) (s .ops) old (cell t z (k + 1) i)) (sym e) in
     let last : Changed t (LaneBand lane (k + 2) 1) (meant (s .means) new) old mid =
     changed-as t (LaneBand lane (k + 2) 1) (LaneBand lane (k + 2) 1) _ _ old mid (λ b j i w h. h) (λ b j i w h. h)
@@ -53,7 +53,7 @@ returns g c =
     q ∙ ap (λ z. s .ops .plus (at (s .means) (s .ops) ds (c .args .from + i)) (s .ops .minus z)) (before b i (h .0))
     ∙ sym (updated-last (s .ops) (rowOf (s .means) (s .ops) t old b i) (at (s .means) (s .ops) ds (c .args .from + i)) k)
     ∙ ap (λ z. new b z i) (sym column))
-    (column-changed t lane (k + 2) (c .start-of-to .result) _ old mid to (c .pre .within) (c .difference-run .ensures)) in
+    (column-changed t lane (k + 2) (c .start .result) _ old mid to (c .pre .within) (c .difference-run .ensures)) in
     changed-more t (LaneBand lane (k + 2) 1) (LaneBand lane 0 (k + 2 - 0)) (LaneBand lane 0 (k + 3)) (meant (s .means) new) _ old mid (c .accumulate-lane .last .ts)
     (λ b j i w h. elim (cases-eq j (k + 2)) [ inl e ↦ inr ((λ x. omega arith), (h .0, omega arith, omega arith)) | inr ne ↦ inl (h .0, omega arith, omega arith) ])
     (λ b j i h. (h .0, omega arith, omega arith))

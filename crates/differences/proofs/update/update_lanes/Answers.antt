@@ -1,11 +1,10 @@
-use mathlib.Core.Path.{_≡_, sym, ap, _∙_}
-use Prim.Native.Nat.{ℕ, _+_, _<_}
+use mathlib.Core.Path.{ap, _∙_}
+use Prim.Native.Nat.{_+_}
 use native.Mathlib.Omega.{arith}
 use lib.ListN.{length}
 use Rattle.scalar.specs.Sums.{at}
-use Rattle.shape.specs.Lanes.{laneFor}
 use Rattle.shape.specs.Changes.{LanesBand}
-use Rattle.shape.proofs.Blocks.{band-fits, lane-below}
+use Rattle.shape.proofs.Broadcast.{reads-from, reads-within}
 use Rattle.shape.proofs.Cells.{lanes-none, lanes-all}
 use Rattle.product.specs.Results.{rowOf}
 use Rattle.differences.proofs.Pieces.{lane-more, rest-means}
@@ -17,15 +16,9 @@ loop-lane-holds g c = lanes-none _ _ _ _ _
 
 pub update-lane-requires : need.update-lane-requires
 update-lane-requires g c κs =
-    let t = c .args .t in
-    let d = c .args .d in
-    let dl = length (c .args .ds .now) in
-    let lane = c .loop-lane .lane in
     let l = c .loop-lane-test .taken in
-    let from = c .start-read-from .ensures dl (c .pre .source) l (c .pre .fits .few-lanes) in
-    let read = lane-below lane (d .of .lanes) (t .lanes) (c .pre .source .fits .some) l in
-    let f = band-fits (d .of) dl (laneFor lane (d .of .lanes) (t .lanes)) (d .col) 1 (c .pre .source .fits) read (omega arith) in
-    record { fits = rw (c .loop-lane .kept .ts) (c .pre .fits); lane = l; within = c .pre .within; source = omega arith }
+    let within = reads-within (c .args .d) (length (c .args .ds .now)) (c .args .t .lanes) (c .loop-lane .lane) (c .lane-for .result) (c .start-from .result) (c .pre .source) l (c .pre .fits .few-lanes) (c .lane-for .ensures) (c .start-from .ensures) in
+    record { fits = rw (c .loop-lane .kept .ts) (c .pre .fits); lane = l; within = c .pre .within; source = omega (arith, c .pre .rows) }
 
 pub loop-lane-again : need.loop-lane-again
 loop-lane-again g c =
@@ -37,7 +30,7 @@ loop-lane-again g c =
     let n = c .loop-lane .lane in
     let old = c .args .ts .now in
     let cur = c .loop-lane .ts in
-    let from = c .start-read-from .ensures (length ds) (c .pre .source) (c .loop-lane-test .taken) (c .pre .fits .few-lanes) in
+    let from = reads-from d (length ds) (t .lanes) n (c .lane-for .result) (c .start-from .result) (c .pre .source) (c .loop-lane-test .taken) (c .pre .fits .few-lanes) (c .lane-for .ensures) (c .start-from .ensures) in
     lane-more t n 0 (k + 3) _ _ old cur (c .update-lane .last .ts)
     (λ j i v w low high q.
     q ∙ updated-cong (s .ops) (rowOf (s .means) (s .ops) t cur n i) (rowOf (s .means) (s .ops) t old n i) _ _ k j (omega arith)
