@@ -29,7 +29,8 @@ fn test_weights(
         cols: 1,
         lanes: t.lanes,
     };
-    let vectors = misfits(vector, first) | (misfits(vector, second) | (misfits(vector, sum) | (work < 8)));
+    let vectors = misfits(vector, first)
+        | (misfits(vector, second) | (misfits(vector, sum) | (work < 8)));
     if misfits(t, table) | vectors {
         return Err(Refusal::Memory);
     }
