@@ -61,14 +61,14 @@ module _ {S M : Type 0} (means : S → M) (r c : ℕ) (x : StepRecord) (ns : Lis
   numbers-many : length (cut (x .«numbers_at») (x .«number_count») ns) ≡ needed (x .kind)
   numbers-many = ap length (cut-take (x .«numbers_at») (x .«number_count») ns) ∙ length-cut (x .«numbers_at») (x .«number_count») ns (numbers-in .0) ∙ numbers-in .1
 
-  numbers-given : map means (cut (x .«numbers_at») (x .«number_count») ns) ≡ given (part (x .«numbers_at») (x .«number_count») (map means ns))
+  pub numbers-given : map means (cut (x .«numbers_at») (x .«number_count») ns) ≡ given (part (x .«numbers_at») (x .«number_count») (map means ns))
   numbers-given =
       let p = x .«numbers_at» in
       let n = x .«number_count» in
       ap (map means) (cut-take p n ns) ∙ sym (ap (take n) (drop-map means p ns) ∙ take-map means n (drop p ns))
       ∙ sym (given-part p n (map means ns) (omega (arith, length-map ns means, numbers-in .0)))
 
-  list-given : listed (x .kind) ≡ true → cut (x .«list_at») (x .«list_count») ks ≡ given (part (x .«list_at») (x .«list_count») ks)
+  pub list-given : listed (x .kind) ≡ true → cut (x .«list_at») (x .«list_count») ks ≡ given (part (x .«list_at») (x .«list_count») ks)
   list-given h = cut-take (x .«list_at») (x .«list_count») ks ∙ sym (given-part (x .«list_at») (x .«list_count») ks (list-in h .0))
 
   pub allowed-listed : listed (x .kind) ≡ true → Allowed r c (x .kind) (length (cut (x .«numbers_at») (x .«number_count») ns)) (cut (x .«list_at») (x .«list_count») ks)
