@@ -1,9 +1,9 @@
 -- The floats are a set, and the constants 0.0 and 1.0. Assumes nothing.
-use Rattle.std.specs.Prelude.{◌≡◌, ℕ, zero, suc, ◌*◌, ◌<◌, Bool, true, false, ◌&&◌, T, ℤ, pos, to_bits, refl, Float}
+use Rattle.std.specs.Prelude.{◌≡◌, ℕ, zero, suc, ◌*◌, ◌<◌, Bool, true, false, T, to_bits, refl, Float}
 use Rattle.std.proofs.Common.{sym, ap, ◌∙◌, mul-pos, arith, eq-eqb, ne_eqb}
 use Rattle.std.specs.Float.Ieee.Bits.{of_bits-to_bits}
 use base.Stored.{Coded-set, coded_float}
-use Rattle.std.specs.Float.Ieee.Fits.{up_pos, down_pos}
+use Rattle.std.specs.Float.Ieee.Fits.{up_pos}
 use Rattle.std.specs.Float.Ieee.{eq, up, down, level, of_bits, fits}
 use Rattle.std.specs.Float.{nan, inf, fin, Format, binary32, binary64}
 use Rattle.scalar.specs.Floats.{zero_float, one_float, is_zero_float}

@@ -1,5 +1,5 @@
 -- The numbers modulo m: a meaning is the remainder, with its bound. Assumes nothing.
-use Rattle.std.specs.Prelude.{◌≡◌, ℕ, ◌+◌, ◌-◌, ◌*◌, ◌%◌, ◌^◌, ◌<◌, ◌==◌}
+use Rattle.std.specs.Prelude.{ℕ, ◌+◌, ◌-◌, ◌*◌, ◌%◌, ◌^◌, ◌<◌, ◌==◌}
 use Rattle.std.proofs.Common.{mod-lt, lit<}
 use Rattle.scalar.specs.Ops.{Ops}
 

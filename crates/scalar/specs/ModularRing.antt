@@ -1,11 +1,11 @@
 -- The numbers modulo m are a set, and a commutative ring. Assumes nothing.
-use Rattle.std.specs.Prelude.{◌≡◌, ℕ, suc, ◌+◌, ◌-◌, ◌*◌, ◌/◌, ◌%◌, ◌<◌, ◌≤◌, true, refl}
-use Rattle.std.proofs.Common.{sym, ap, ◌∙◌, mod-lt, add_assoc, add_comm, mul_assoc, mul_comm, mul-add, add-mul, mod-eq_of_lt, add-zero, zero-add, mul-one, arith, eqb-true}
+use Rattle.std.specs.Prelude.{◌≡◌, ℕ, ◌+◌, ◌-◌, ◌*◌, ◌/◌, ◌%◌, ◌<◌}
+use Rattle.std.proofs.Common.{sym, ap, ◌∙◌, mod-lt, add_assoc, add_comm, mul_assoc, mul_comm, mul-add, mod-eq_of_lt, add-zero, zero-add, mul-one, arith, eqb-true}
 use Rattle.std.proofs.Math.Decide.{ℕ_discrete}
 use mathlib.Core.HLevel.{is_prop→PathP, hedberg, Discrete}
 use Rattle.std.proofs.Math.Nat.{mod-mod, mod_self, add-mod, mod-add-mod, add-mod-mod, mul-add-mod_self_left, div-add-mod, zero-mod, add-mod_right}
 use Rattle.std.proofs.Math.Bridge.{le_prop}
-use Rattle.scalar.specs.Ops.{Ops, Ring}
+use Rattle.scalar.specs.Ops.{Ring}
 use Rattle.scalar.specs.Modular.{Below, modulo, modular}
 
 pub below_same : {m : ℕ} (a b : Below m) → a.number ≡ b.number → a ≡ b

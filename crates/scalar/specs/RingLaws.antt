@@ -1,5 +1,5 @@
 -- What a commutative ring's laws give. Assumes nothing.
-use Rattle.std.specs.Prelude.{◌≡◌, refl}
+use Rattle.std.specs.Prelude.{◌≡◌}
 use Rattle.std.proofs.Common.{sym, ap, ap₂, ◌∙◌}
 use Rattle.scalar.specs.Ops.{Ops, Ring}
 

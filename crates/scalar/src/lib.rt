@@ -1,5 +1,7 @@
 //! Scalars by their meaning: what an answer means is a function of what the operands mean.
 //! Two traits, f64 and f32, two exact number types, pairs over any scalar, and the factor `Scale`.
+#![tactic(auto)]
+
 ghost use Rattle.std.specs.Prelude.{◌≡◌, ℕ, Bool, true, Decides};
 ghost use Rattle.scalar.specs.Ops.{Ops};
 ghost use Rattle.scalar.specs.Orders.{Order};

@@ -1,10 +1,11 @@
 //! The two exact number types: 64-bit numbers modulo 2^64, and numbers modulo 2,147,483,647.
-ghost use Rattle.std.specs.Prelude.{◌≡◌, ℕ, ◌^◌, ◌<◌, Bool, true, Decides};
+ghost use Rattle.std.specs.Prelude.{◌≡◌, ℕ, ◌^◌, ◌<◌, ◌==◌, Bool, true, Decides};
 ghost use Rattle.scalar.specs.Ops.{Ops};
 ghost use Rattle.scalar.specs.Modular.{Below, modulus, wrap, wraps, residue, residues};
 ghost use Rattle.scalar.specs.ModularRing.{below_set, modular_ring};
 ghost use Rattle.std.proofs.Common.{lit<, rules};
 ghost use Rattle.std.specs.Cmp.Rules.{comparing};
+ghost use Rattle.std.specs.Ordering.{on};
 
 use crate::Scalar;
 
@@ -25,9 +26,9 @@ impl Scalar for Wrap {
 
     ghost zero_is_zero = { Prim.search rules };
 
-    ghost plus_assoc = { λ _. (modular_ring (2 ^ 64) (lit< tt)).plus-assoc };
+    ghost plus_assoc = { λ _. (modular_ring (2 ^ 64) (lit< tt)).plus_assoc };
 
-    ghost plus_comm = { λ _. (modular_ring (2 ^ 64) (lit< tt)).plus-comm };
+    ghost plus_comm = { λ _. (modular_ring (2 ^ 64) (lit< tt)).plus_comm };
 
     ghost plus_zero = { λ _. (modular_ring (2 ^ 64) (lit< tt)).plus_zero };
 
@@ -94,11 +95,15 @@ impl Residue {
 }
 
 impl PartialEq for Residue {
-    ghost equals = { λ x y r. Decides r (residue x.0 ≡ residue y.0) };
+    // whether both mean the same
+    ghost eq = { on (λ r. (residue r.0).number) ◌==◌ };
 
     ghost laws = { Prim.search (comparing, rules) };
 
-    fn eq(&self, other: &Residue) -> bool {
+    fn eq(&self, other: &Residue) -> bool
+        ensures eq { result ≡ ((residue self.now.0).number == (residue other.now.0).number) }
+        ensures meanings { Decides result (residue self.now.0 ≡ residue other.now.0) }
+    {
         self.0 % MODULUS == other.0 % MODULUS
     }
 }
@@ -116,9 +121,9 @@ impl Scalar for Residue {
 
     ghost zero_is_zero = { Prim.search rules };
 
-    ghost plus_assoc = { λ _. (modular_ring modulus (lit< tt)).plus-assoc };
+    ghost plus_assoc = { λ _. (modular_ring modulus (lit< tt)).plus_assoc };
 
-    ghost plus_comm = { λ _. (modular_ring modulus (lit< tt)).plus-comm };
+    ghost plus_comm = { λ _. (modular_ring modulus (lit< tt)).plus_comm };
 
     ghost plus_zero = { λ _. (modular_ring modulus (lit< tt)).plus_zero };
 

@@ -1,6 +1,6 @@
 //! A value and a slope over any scalar: the pair is exact where the scalar below is.
 ghost use Rattle.scalar.specs.Pairs.{paired};
-ghost use Rattle.scalar.specs.PairedRing.{paired_set};
+ghost use Rattle.scalar.specs.PairedRing.{paired_set, paired_ring};
 ghost use Rattle.std.proofs.Common.{rules};
 
 use crate::Scalar;
@@ -24,6 +24,24 @@ impl<S: Scalar> Scalar for Pair<S> {
     ghost set = { paired_set S.Scalar.set };
 
     ghost zero_is_zero = { Prim.search rules };
+
+    ghost plus_assoc = { λ e. (paired_ring {o = S.Scalar.ops} (Prim.search rules)).plus_assoc };
+
+    ghost plus_comm = { λ e. (paired_ring {o = S.Scalar.ops} (Prim.search rules)).plus_comm };
+
+    ghost plus_zero = { λ e. (paired_ring {o = S.Scalar.ops} (Prim.search rules)).plus_zero };
+
+    ghost plus_minus = { λ e. (paired_ring {o = S.Scalar.ops} (Prim.search rules)).plus_minus };
+
+    ghost times_assoc = { λ e. (paired_ring {o = S.Scalar.ops} (Prim.search rules)).times_assoc };
+
+    ghost times_comm = { λ e. (paired_ring {o = S.Scalar.ops} (Prim.search rules)).times_comm };
+
+    ghost times_one = { λ e. (paired_ring {o = S.Scalar.ops} (Prim.search rules)).times_one };
+
+    ghost times_plus = { λ e. (paired_ring {o = S.Scalar.ops} (Prim.search rules)).times_plus };
+
+    ghost zero_only = { λ e. (paired_ring {o = S.Scalar.ops} (Prim.search rules)).zero_only };
 
     fn zero() -> Pair<S> {
         Pair {

@@ -1,4 +1,5 @@
 //! Examples of every layer, proved and then run. This crate holds tests only.
+#![tactic(auto)]
 #[cfg(test)]
 mod indices;
 #[cfg(test)]

@@ -5,8 +5,8 @@ use Rattle.scalar.proofs.floats.F32Ordered.equal.Goals as goal
 
 pub returns : goal.returns
 returns c =
-    let a = c.f32-to-bits-with-nan.ensures in
-    let b = c.f32-to-bits-with-nan-2.ensures in (
-      λ e. same_bits binary32 c.args.self c.args.other (subst T (sym c.well-formed.0.1) tt) (subst T (sym c.well-formed.1.0.1) tt) (sym a ∙ eqb-true _ _ e ∙ b),
+    let a = c.f32_to_bits_with_nan.ensures in
+    let b = c.f32_to_bits_with_nan-2.ensures in (
+      λ e. same_bits binary32 c.args.self c.args.other (subst T (sym c.well_formed.0.1) tt) (subst T (sym c.well_formed.1.0.1) tt) (sym a ∙ eqb-true _ _ e ∙ b),
       λ e. eq-eqb _ _ (a ∙ ap (to_bits binary32) e ∙ sym b),
     )
