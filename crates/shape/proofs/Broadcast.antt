@@ -1,5 +1,5 @@
 -- Where the run of a source starts that a destination's lane reads. Assumes nothing.
-use Rattle.std.proofs.Common.{◌≡◌, ℕ, ◌+◌, ◌*◌, ◌<◌, ◌≤◌, ap, ◌∙◌, arith}
+use Rattle.std.proofs.Common.{◌≡◌, ℕ, ◌+◌, ◌<◌, ◌≤◌, ap, ◌∙◌, arith}
 use Rattle.shape.specs.Shapes.{start, Lawful}
 use Rattle.shape.specs.Lanes.{lane_for}
 use Rattle.shape.specs.declared.operand.Column.{Column}

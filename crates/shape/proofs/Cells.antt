@@ -1,5 +1,5 @@
 -- Memories that differ in named cells: writes after one another. Assumes nothing.
-use Rattle.std.proofs.Common.{◌≡◌, ℕ, ◌+◌, ◌-◌, ◌*◌, ◌<◌, ◌≤◌, ◌⊎◌, List, get_or, sym, refl, ap, ◌∙◌, inl, inr, arith}
+use Rattle.std.proofs.Common.{◌≡◌, ℕ, ◌+◌, ◌-◌, ◌*◌, ◌<◌, ◌≤◌, ◌⊎◌, List, sym, refl, ap, ◌∙◌, inl, inr, arith}
 use lib.Arith.{digits_lt}
 use Rattle.shape.specs.Shapes.{start, cell, In}
 use Rattle.std.proofs.lemmas.Bool.{cases_eq}

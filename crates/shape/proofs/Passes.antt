@@ -1,10 +1,10 @@
 -- Lawful operands pass the tests of the calls that they are given to. Assumes nothing.
-use Rattle.std.proofs.Common.{◌≡◌, ℕ, ◌*◌, ◌/◌, ◌%◌, ◌<◌, ◌≤◌, Bool, true, false, cond, not, ◌||◌, eqb, ltb, leb, List, [], ◌∷◌, sym, refl, ap, ◌∙◌, mul-div_cancel, arith, eq-eqb}
+use Rattle.std.proofs.Common.{◌≡◌, ℕ, ◌*◌, ◌/◌, ◌%◌, ◌<◌, Bool, false, cond, not, ◌||◌, eqb, ltb, List, [], ◌∷◌, refl, ap, ◌∙◌, mul-div_cancel, arith, eq-eqb}
 use Rattle.std.proofs.lemmas.Bool.{or_from, or_left, not_from_true, le-ltb, lt-leb, ne_eqb}
-use Rattle.shape.specs.Shapes.{column_of, no_lanes, too_large, misfit, no_column, cells, Fits, Lawful}
+use Rattle.shape.specs.Shapes.{no_lanes, too_large, misfit, no_column, cells, Fits, Lawful}
 use Rattle.shape.specs.Lanes.{lane_for, no_broadcast}
 use Rattle.shape.specs.Refusals.{first_of}
-use Rattle.shape.specs.Operands.{shape_tests, pair_tests, PairLawful, table_tests, TablesLawful}
+use Rattle.shape.specs.Operands.{shape_tests, pair_tests, table_tests, TablesLawful}
 use Rattle.shape.specs.declared.operand.TableShape.{TableShape}
 use Rattle.shape.specs.declared.operand.Column.{Column}
 use Rattle.shape.proofs.Verdicts.{Clear}

@@ -6,4 +6,4 @@ pub revise-lanes-requires : goal.revise-lanes-requires
 revise-lanes-requires g c = rw c.band.ensures (record { target = c.requires.fits; within = omega (arith, c.requires.within) })
 
 pub returns : goal.returns
-returns g c = revised_column (g.R.Revision.made c.args.rule) c.args.ys.now _ _ _ c.band.ensures c.revise-lanes.ensures
+returns g c = revised_column (g.R.Revision.made c.args.rule) c.args.ys.now _ _ _ c.band.ensures c.revise_lanes.ensures

@@ -23,7 +23,7 @@ loop-lane-preserved g c =
     let lane = c.loop-lane.lane in
     let l = c.loop-lane-test.true in
     let to : c.start.result ≡ start y.of lane y.first = c.start.ensures (length old) c.requires.target (omega arith) l in
-    lanes_more y.of lane y.first y.count c.start.result _ _ old cur c.revise-part.new.ys to c.requires.within
+    lanes_more y.of lane y.first y.count c.start.result _ _ old cur c.revise_part.new.ys to c.requires.within
     (λ j i v w h k q d.
     let same : y.first + (j - y.first) ≡ j = omega arith in
     let target : c.start.result + ((j - y.first) * y.of.rows + i) ≡ cell y.of lane j i =
@@ -31,7 +31,7 @@ loop-lane-preserved g c =
     let read-y = ap (λ z. get_or cur z d) target ∙ c.loop-lane.invariant.kept lane j i d w (λ z. omega arith) in
     rw (sym read-y) (q d))
     c.loop-lane.invariant
-    c.revise-part.ensures
+    c.revise_part.ensures
 
 pub returns : goal.returns
 returns g c = lanes_all _ _ _ _ _ _ _ c.loop-lane-test.false c.loop-lane.invariant

@@ -5,4 +5,4 @@ pub zip-lanes-requires : goal.zip-lanes-requires
 zip-lanes-requires g c = rw (c.band.ensures, c.band-2.ensures) (pair_bands _ _ _ _ c.requires)
 
 pub returns : goal.returns
-returns g c = zipped_columns (g.R.Rule.made c.args.rule) c.args.xs.now c.args.ys.now _ _ _ _ _ c.band.ensures c.band-2.ensures c.zip-lanes.ensures
+returns g c = zipped_columns (g.R.Rule.made c.args.rule) c.args.xs.now c.args.ys.now _ _ _ _ _ c.band.ensures c.band-2.ensures c.zip_lanes.ensures

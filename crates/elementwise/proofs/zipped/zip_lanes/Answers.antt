@@ -32,10 +32,10 @@ loop-lane-preserved g c =
     let cur = c.loop-lane.ys in
     let lane = c.loop-lane.lane in
     let l = c.loop-lane-test.true in
-    let read = c.lane-for.result in
-    let from = reads_from x (length xs) y (length old) c.requires lane read c.start-from.result l c.lane-for.ensures c.start-from.ensures in
+    let read = c.lane_for.result in
+    let from = reads_from x (length xs) y (length old) c.requires lane read c.start-from.result l c.lane_for.ensures c.start-from.ensures in
     let to : c.start.result ≡ start y.of lane y.first = c.start.ensures (length old) c.requires.target (omega arith) l in
-    lanes_more y.of lane y.first y.count c.start.result _ _ old cur c.zip-part.new.ys to c.requires.target_within
+    lanes_more y.of lane y.first y.count c.start.result _ _ old cur c.zip_part.new.ys to c.requires.target_within
     (λ j i v w h k q d.
     let source : c.start-from.result + ((j - y.first) * y.of.rows + i) ≡ cell x.of (lane_for lane x.of.lanes y.of.lanes) (x.first + (j - y.first)) i =
     place_in x.of (lane_for lane x.of.lanes y.of.lanes) x.first y.first j i y.of.rows c.start-from.result from c.requires.rows in
@@ -46,7 +46,7 @@ loop-lane-preserved g c =
     let read-y = ap (λ z. get_or cur z d) target ∙ c.loop-lane.invariant.kept lane j i d w (λ z. omega arith) in
     rw (sym read-x, sym read-y) (q d))
     c.loop-lane.invariant
-    c.zip-part.ensures
+    c.zip_part.ensures
 
 pub returns : goal.returns
 returns g c = lanes_all _ _ _ _ _ _ _ c.loop-lane-test.false c.loop-lane.invariant

@@ -11,9 +11,9 @@ returns g c =
     let to = c.args.to in
     let n = c.args.count in
     let part = length_part ys to n c.requires.target in
-    part_changed to n _ ys c.zip-run.new.y c.requires.target (c.zip-run.auto.y ∙ part)
+    part_changed to n _ ys c.zip_run.new.y c.requires.target (c.zip_run.auto.y ∙ part)
     (λ i e h d.
     let x = part_get from n i xs d c.requires.source h in
     let y = part_get to n i ys d c.requires.target h in
-    let v = get_or_default c.zip-run.new.y i e d (omega (arith, c.zip-run.auto.y)) in
-    rw (sym x, sym y, v) (c.zip-run.ensures i d (omega arith)))
+    let v = get_or_default c.zip_run.new.y i e d (omega (arith, c.zip_run.auto.y)) in
+    rw (sym x, sym y, v) (c.zip_run.ensures i d (omega arith)))

@@ -1,4 +1,4 @@
-use Rattle.std.proofs.Common.{ℕ, get_or}
+use Rattle.std.proofs.Common.{get_or}
 use Rattle.shape.proofs.Parts.{Filled}
 use Rattle.elementwise.proofs.zipped.zip_run.Given as goal
 

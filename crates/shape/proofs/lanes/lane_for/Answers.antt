@@ -1,4 +1,4 @@
-use Rattle.std.proofs.Common.{◌≡◌, ◌*◌, ◌/◌, sym, ap, ◌∙◌, mul-div_cancel, arith}
+use Rattle.std.proofs.Common.{◌*◌, ◌/◌, sym, ap, ◌∙◌, mul-div_cancel, arith}
 use Rattle.shape.proofs.lanes.lane_for.Goals as goal
 
 -- equal counts: b·n/n is b

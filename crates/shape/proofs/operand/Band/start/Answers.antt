@@ -1,4 +1,4 @@
-use Rattle.std.proofs.Common.{◌≡◌, ◌+◌, ◌*◌, ◌%◌, ◌≤◌, ap, ◌∙◌, mod-eq_of_lt, mul-le-mul, arith}
+use Rattle.std.proofs.Common.{◌+◌, ◌*◌, ◌%◌, ◌≤◌, ap, ◌∙◌, mod-eq_of_lt, mul-le-mul, arith}
 use Rattle.shape.proofs.operand.Band.start.Goals as goal
 
 -- within the limits of a shape nothing wraps
