@@ -3,8 +3,8 @@ use Rattle.scalar.specs.Sums.{at, sum_from}
 use Rattle.shape.proofs.Blocks.{band_fits}
 use Rattle.pairing.proofs.add_column.Goals as goal
 
-pub add-part-requires : goal.add-part-requires
-add-part-requires g c =
+pub add_part-requires : goal.add_part-requires
+add_part-requires g c =
     let v = c.args.v in
     let xl = length c.args.xs.now in
     let yl = length c.args.ys.now in
@@ -18,5 +18,5 @@ returns g c =
     let s = g.row.S-Scalar in
     let v = c.args.v in
     let from = c.start.ensures (length c.args.xs.now) (record { fits = c.requires.entries; within = c.requires.column }) c.requires.lane in
-    c.add-part.ensures
+    c.add_part.ensures
     ∙ ap (λ z. sum_from s.ops (s.means c.args.sum) (λ i. s.ops.times (at s.means s.ops c.args.xs.now (z + i)) (at s.means s.ops c.args.ys.now (z + i))) v.of.rows) from

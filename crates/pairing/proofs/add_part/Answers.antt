@@ -5,8 +5,8 @@ use Rattle.shape.proofs.Parts.{length_part}
 use Rattle.product.proofs.Entries.{at_part}
 use Rattle.pairing.proofs.add_part.Goals as goal
 
-pub add-products-requires : goal.add-products-requires
-add-products-requires g c =
+pub add_products-requires : goal.add_products-requires
+add_products-requires g c =
     let x = length_part c.args.xs.now c.args.from c.args.rows c.requires.entries in
     let y = length_part c.args.ys.now c.args.from c.args.rows c.requires.weights in
     omega arith
@@ -15,6 +15,6 @@ pub returns : goal.returns
 returns g c =
     let s = g.row.S-Scalar in
     let n = c.args.rows in
-    c.add-products.ensures ∙ ap (sum_from s.ops (s.means c.args.sum) _) (length_part c.args.xs.now c.args.from n c.requires.entries)
+    c.add_products.ensures ∙ ap (sum_from s.ops (s.means c.args.sum) _) (length_part c.args.xs.now c.args.from n c.requires.entries)
     ∙ sum_same s.ops (s.means c.args.sum) _ _ n
     (λ i h. ap₂ s.ops.times (at_part s.means s.ops c.args.from n i c.args.xs.now c.requires.entries h) (at_part s.means s.ops c.args.from n i c.args.ys.now c.requires.weights h))

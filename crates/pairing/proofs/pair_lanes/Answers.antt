@@ -11,8 +11,8 @@ loop-lane-preserved g c =
     let a = c.args in
     let k = c.loop-lane.lane in
     let old = c.loop-lane.sums in
-    let x = c.pair-lane.result in
+    let x = c.pair_lane.result in
     let f = lane_pairing s.means s.ops a.t (memory a.ds.now a.us.now a.vs.now) (memory a.es.now a.ps.now a.qs.now) in
-    let put : map s.means (set old k x) ≡ set (map s.means old) k (f k) = map-set s.means old k x ∙ ap (set (map s.means old) k) c.pair-lane.ensures in
+    let put : map s.means (set old k x) ≡ set (map s.means old) k (f k) = map-set s.means old k x ∙ ap (set (map s.means old) k) c.pair_lane.ensures in
     let long : k < length (map s.means old) = omega (arith, length-map old s.means) in
     λ b h. ap (λ ms. get_or ms b s.ops.zero) put ∙ fill_by_more f (map s.means old) k s.ops.zero long c.loop-lane.invariant b h

@@ -10,5 +10,5 @@ loop-j-preserved g c =
     let t = c.args.t in
     let j = c.loop-j.j in
     let f = λ (j i : ℕ). s.ops.times (at s.means s.ops c.args.ds.now (cell t c.args.lane j i)) (at s.means s.ops c.args.es.now (cell t c.args.lane j i)) in
-    let e = rw c.column.ensures at c.add-column-sum.ensures in
+    let e = rw c.column.ensures at c.add_column-sum.ensures in
     e ∙ ap (λ z. sum_from s.ops z (f j) t.rows) c.loop-j.invariant ∙ sym (columns_next s.ops t.rows f j)

@@ -3,4 +3,4 @@ use Rattle.backward.proofs.Passed.{weights_passed}
 use Rattle.backward.proofs.check.check_weights.Goals as goal
 
 pub returns : goal.returns
-returns c = record { verdict = c.test-weights.ensures; lawful = λ e. weights_passed _ _ _ _ _ _ (sym c.test-weights.ensures ∙ e) }
+returns c = record { verdict = c.test_weights.ensures; lawful = λ e. weights_passed _ _ _ _ _ _ (sym c.test_weights.ensures ∙ e) }

@@ -10,10 +10,10 @@ returns g c =
     let t = c.args.t in
     let es = c.args.es.now in
     let column = column_of t c.args.j in
-    let done = added s.means s.ops _ _ (vector_of t) column _ c.args.ps.now es c.add-assign.new.ys c.vector-v.ensures c.column.ensures c.requires.first
-    (record { fits = c.requires.table; within = c.requires.within }) refl refl c.add-assign.auto.ys c.add-assign.ensures.verdict c.add-assign.ensures.accepted in
+    let done = added s.means s.ops _ _ (vector_of t) column _ c.args.ps.now es c.add_assign.new.ys c.vector-v.ensures c.column.ensures c.requires.first
+    (record { fits = c.requires.table; within = c.requires.within }) refl refl c.add_assign.auto.ys c.add_assign.ensures.verdict c.add_assign.ensures.accepted in
     λ qs b l. record {
-      table = λ k i h m. column_put s.means s.ops t c.args.j _ es c.add-assign.new.ys done b k i (record { lane = l; col = h; row = m });
+      table = λ k i h m. column_put s.means s.ops t c.args.j _ es c.add_assign.new.ys done b k i (record { lane = l; col = h; row = m });
       first = λ i h. refl;
       second = λ i h. refl;
     }

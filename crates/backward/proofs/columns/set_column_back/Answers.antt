@@ -12,7 +12,7 @@ returns g c =
     let ps = c.args.ps.now in
     let column = column_of t c.args.j in
     let law : Lawful column (length es) = record { fits = c.requires.table; within = c.requires.within } in
-    let first = added s.means s.ops _ _ column (vector_of t) _ es ps c.add-assign.new.ys c.column-column.ensures c.vector-v.ensures law c.requires.first refl refl c.add-assign.auto.ys c.add-assign.ensures.verdict c.add-assign.ensures.accepted in
+    let first = added s.means s.ops _ _ column (vector_of t) _ es ps c.add_assign.new.ys c.column-column.ensures c.vector-v.ensures law c.requires.first refl refl c.add_assign.auto.ys c.add_assign.ensures.verdict c.add_assign.ensures.accepted in
     let cleared = filled s.means s.ops _ s.ops.zero _ column _ es c.fill.new.ys c.zero.ensures c.column-column.ensures law c.fill.auto.ys c.fill.ensures.verdict c.fill.ensures.accepted in
     λ qs b l. record {
       table = λ k i h m. column_put s.means s.ops t c.args.j _ es c.fill.new.ys cleared b k i (record { lane = l; col = h; row = m });

@@ -11,7 +11,7 @@ returns g c =
     let is = c.vector-v.ensures in
     let ps = c.args.ps.now in
     let qs = c.args.qs.now in
-    let call = c.gather-transpose in
+    let call = c.gather_transpose in
     let second = gathered s.means s.ops _ v c.args.list.now _ ps qs is c.requires.first c.requires.second c.requires.long c.requires.inside call.ensures.verdict call.new.qs call.auto.qs call.ensures.accepted in
     let first = filled s.means s.ops _ s.ops.zero _ v _ ps c.fill.new.ys c.zero.ensures is c.requires.first c.fill.auto.ys c.fill.ensures.verdict c.fill.ensures.accepted in
     λ es b l. record { table = λ j i h k. refl; first = λ i h. first.here b i l h; second = λ i h. second b i l h }

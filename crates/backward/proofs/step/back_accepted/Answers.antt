@@ -4,8 +4,8 @@ use Rattle.backward.specs.Backs.{weights}
 use Rattle.backward.proofs.Carried.{carried_listed, carried_unlisted}
 use Rattle.backward.proofs.step.back_accepted.Goals as goal
 
-pub overflow-add-given : goal.overflow-add-given
-overflow-add-given g c =
+pub overflow_add-given : goal.overflow_add-given
+overflow_add-given g c =
     let h = (numbers_in g.row.S-Scalar.means c.args.t.rows c.args.t.cols c.args.x c.args.numbers.now c.args.indices.now c.requires.passed).0 in
     search rules
 
@@ -19,26 +19,26 @@ slice-bounds-given-end g c =
     let h = (numbers_in g.row.S-Scalar.means c.args.t.rows c.args.t.cols c.args.x c.args.numbers.now c.args.indices.now c.requires.passed).0 in
     search rules
 
-pub back-kind-requires : goal.back-kind-requires
-back-kind-requires g c = record {
+pub back_kind-requires : goal.back_kind-requires
+back_kind-requires g c = record {
   room = c.requires.room;
   sum = c.requires.sum;
-  allowed = allowed_listed g.row.S-Scalar.means c.args.t.rows c.args.t.cols c.args.x c.args.numbers.now c.args.indices.now c.requires.passed (sym c.if-reads-list.ensures);
+  allowed = allowed_listed g.row.S-Scalar.means c.args.t.rows c.args.t.cols c.args.x c.args.numbers.now c.args.indices.now c.requires.passed (sym c.if-reads_list.ensures);
 }
 
-pub back-kind-requires-else-reads-list : goal.back-kind-requires-else-reads-list
-back-kind-requires-else-reads-list g c = record {
+pub back_kind-requires-else-reads_list : goal.back_kind-requires-else-reads_list
+back_kind-requires-else-reads_list g c = record {
   room = c.requires.room;
   sum = c.requires.sum;
-  allowed = allowed_unlisted g.row.S-Scalar.means c.args.t.rows c.args.t.cols c.args.x c.args.numbers.now c.args.indices.now c.requires.passed _ (sym c.if-reads-list.ensures);
+  allowed = allowed_unlisted g.row.S-Scalar.means c.args.t.rows c.args.t.cols c.args.x c.args.numbers.now c.args.indices.now c.requires.passed _ (sym c.if-reads_list.ensures);
 }
 
-pub returns-then-reads-list : goal.returns-then-reads-list
-returns-then-reads-list g c =
-    carried_listed g.row.S-Scalar.means g.row.S-Scalar.ops c.args.t (weights c.args.es.now c.args.ps.now c.args.qs.now) (weights c.back-kind.new.es c.back-kind.new.ps c.back-kind.new.qs)
-    c.args.x c.args.numbers.now c.args.indices.now c.requires.passed (sym c.if-reads-list.ensures) c.back-kind.ensures
+pub returns-then-reads_list : goal.returns-then-reads_list
+returns-then-reads_list g c =
+    carried_listed g.row.S-Scalar.means g.row.S-Scalar.ops c.args.t (weights c.args.es.now c.args.ps.now c.args.qs.now) (weights c.back_kind.new.es c.back_kind.new.ps c.back_kind.new.qs)
+    c.args.x c.args.numbers.now c.args.indices.now c.requires.passed (sym c.if-reads_list.ensures) c.back_kind.ensures
 
-pub returns-else-reads-list : goal.returns-else-reads-list
-returns-else-reads-list g c =
-    carried_unlisted g.row.S-Scalar.means g.row.S-Scalar.ops c.args.t (weights c.args.es.now c.args.ps.now c.args.qs.now) (weights c.back-kind-else-reads-list.new.es c.back-kind-else-reads-list.new.ps c.back-kind-else-reads-list.new.qs)
-    c.args.x c.args.numbers.now c.args.indices.now c.requires.passed _ (sym c.if-reads-list.ensures) c.back-kind-else-reads-list.ensures
+pub returns-else-reads_list : goal.returns-else-reads_list
+returns-else-reads_list g c =
+    carried_unlisted g.row.S-Scalar.means g.row.S-Scalar.ops c.args.t (weights c.args.es.now c.args.ps.now c.args.qs.now) (weights c.back_kind-else-reads_list.new.es c.back_kind-else-reads_list.new.ps c.back_kind-else-reads_list.new.qs)
+    c.args.x c.args.numbers.now c.args.indices.now c.requires.passed _ (sym c.if-reads_list.ensures) c.back_kind-else-reads_list.ensures

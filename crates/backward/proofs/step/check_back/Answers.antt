@@ -7,13 +7,13 @@ use Rattle.forward.proofs.Taken.{first_before, first_after, number_some}
 use Rattle.backward.specs.Tests.{weights_tests}
 use Rattle.backward.proofs.step.check_back.Goals as goal
 
-pub returns-in-err-check-weights : goal.returns-in-err-check-weights
-returns-in-err-check-weights g c =
+pub returns-in_err-check_weights : goal.returns-in_err-check_weights
+returns-in_err-check_weights g c =
     let t = c.args.t in
     let before = weights_tests t c.args.table c.args.first c.args.second c.args.sum c.args.work in
     let after = step_tests t.rows t.cols (step_of g.row.S-Scalar.means c.args.x c.args.numbers.now c.args.indices.now) in
-    let f = c.in-err-check-weights.field-0.0 in
-    let e = c.in-err-check-weights.ensures.verdict in
+    let f = c.in_err-check_weights.field-0.0 in
+    let e = c.in_err-check_weights.ensures.verdict in
     let p = err_from_is_err_and c.from-residual.result c.from-residual.ensures.1 in
     rw (p.1, p.2) (record {
       verdict = e ∙ sym (first_before before after (λ z. number_some f (e ∙ z)));
@@ -28,8 +28,8 @@ returns g c =
     let t = c.args.t in
     let before = weights_tests t c.args.table c.args.first c.args.second c.args.sum c.args.work in
     let x = step_of o.means c.args.x c.args.numbers.now c.args.indices.now in
-    let told = c.in-ok-check-weights.ensures in
-    let e = c.check-step.ensures in
+    let told = c.in_ok-check_weights.ensures in
+    let e = c.check_step.ensures in
     record {
       verdict = e ∙ sym (first_after before (step_tests t.rows t.cols x) refl (sym told.verdict));
       lent = λ _. told.lawful refl;

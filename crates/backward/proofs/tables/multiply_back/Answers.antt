@@ -8,7 +8,7 @@ returns g c =
     let s = g.row.S-Scalar in
     let t = c.args.t in
     let es = c.args.es.now in
-    let call = c.mul-cols-by-transpose in
+    let call = c.mul_cols_by_transpose in
     let passes = mul_accepted t (length es) c.args.k (length c.args.numbers.now) (length c.args.work.now) c.requires.table c.requires.within c.requires.few c.requires.numbers c.requires.room in
     let table = multiplied_lane s.means s.ops t es call.new.ts c.requires.table call.auto.ts c.args.k _ (call.ensures.accepted (call.ensures.verdict ∙ passes)) in
     λ ps qs b l. record {

@@ -22,9 +22,9 @@ returns g c =
     let p = rows s.means s.ops v ps in
     let read_a : at s.means s.ops numbers 0 ≡ s.means a = at_read s.means s.ops numbers 0 a (omega (arith, c.requires.numbers)) c.index-numbers-0.is in
     let read-b : at s.means s.ops numbers 1 ≡ s.means b' = at_read s.means s.ops numbers 1 b' (omega (arith, c.requires.numbers)) c.index-numbers-1.is in
-    let call = c.ger-cols in
+    let call = c.ger_cols in
     let table = spread_lane s.means s.ops t es call.new.ts c.requires.table call.auto.ts _ ps numbers _ c.args.start c.args.end (s.means a) is c.requires.first c.requires.within c.requires.ordered c.requires.few c.requires.numbers call.ensures.verdict call.ensures.accepted in
-    let first = scaled s.means s.ops (s.means b') _ v _ ps c.mul-assign.new.ys is c.requires.first c.mul-assign.auto.ys c.mul-assign.ensures.verdict c.mul-assign.ensures.accepted in
+    let first = scaled s.means s.ops (s.means b') _ v _ ps c.mul_assign.new.ys is c.requires.first c.mul_assign.auto.ys c.mul_assign.ensures.verdict c.mul_assign.ensures.accepted in
     λ qs b l. record {
       table = λ j i h k.
           table b j i (record { lane = l; col = h; row = k })

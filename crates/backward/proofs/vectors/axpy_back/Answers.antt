@@ -20,7 +20,7 @@ returns g c =
     let read_a : at s.means s.ops numbers 0 ≡ s.means a = at_read s.means s.ops numbers 0 a (omega (arith, c.requires.numbers)) c.index-numbers-0.is in
     let read-b : at s.means s.ops numbers 1 ≡ s.means b' = at_read s.means s.ops numbers 1 b' (omega (arith, c.requires.numbers)) c.index-numbers-1.is in
     let second = gained s.means s.ops (s.means a) _ _ v v _ ps qs c.gain.new.ys is is c.requires.first c.requires.second refl refl c.gain.auto.ys c.gain.ensures.verdict c.gain.ensures.accepted in
-    let first = scaled s.means s.ops (s.means b') _ v _ ps c.mul-assign.new.ys is c.requires.first c.mul-assign.auto.ys c.mul-assign.ensures.verdict c.mul-assign.ensures.accepted in
+    let first = scaled s.means s.ops (s.means b') _ v _ ps c.mul_assign.new.ys is c.requires.first c.mul_assign.auto.ys c.mul_assign.ensures.verdict c.mul_assign.ensures.accepted in
     λ es b l. record {
       table = λ j i h k. refl;
       first = λ i h. first.here b i l h ∙ ap (λ z. s.ops.times (p b i) z) (sym read-b);

@@ -12,7 +12,7 @@ returns g c =
     let ps = c.args.ps.now in
     let a = c.index-numbers-0.result in
     let read : at s.means s.ops c.args.numbers.now 0 ≡ s.means a = at_read s.means s.ops c.args.numbers.now 0 a (omega (arith, c.requires.numbers)) c.index-numbers-0.is in
-    let first = scaled s.means s.ops (s.means a) _ v _ ps c.mul-assign.new.ys c.vector-v.ensures c.requires.first c.mul-assign.auto.ys c.mul-assign.ensures.verdict c.mul-assign.ensures.accepted in
+    let first = scaled s.means s.ops (s.means a) _ v _ ps c.mul_assign.new.ys c.vector-v.ensures c.requires.first c.mul_assign.auto.ys c.mul_assign.ensures.verdict c.mul_assign.ensures.accepted in
     λ es qs b l. record {
       table = λ j i h k. refl;
       first = λ i h. first.here b i l h ∙ ap (λ z. s.ops.times (rows s.means s.ops v ps b i) z) (sym read);

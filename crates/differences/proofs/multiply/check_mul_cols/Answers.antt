@@ -5,7 +5,7 @@ use Rattle.differences.proofs.multiply.check_mul_cols.Goals as goal
 
 pub returns : goal.returns
 returns c = record {
-  verdict = c.test-mul-cols.ensures;
-  rows = λ e. mul_cols_passed ByRows _ _ _ _ _ (λ n. n) (sym c.test-mul-cols.ensures ∙ e);
-  columns = λ e. mul_cols_passed ByColumns _ _ _ _ _ (λ n. n) (sym c.test-mul-cols.ensures ∙ e);
+  verdict = c.test_mul_cols.ensures;
+  rows = λ e. mul_cols_passed ByRows _ _ _ _ _ (λ n. n) (sym c.test_mul_cols.ensures ∙ e);
+  columns = λ e. mul_cols_passed ByColumns _ _ _ _ _ (λ n. n) (sym c.test_mul_cols.ensures ∙ e);
 }

@@ -9,9 +9,9 @@ returns g c =
     let ys = c.args.ys.now in
     let from = c.args.from in
     let n = c.args.count in
-    let long = c.copy-from-slice.ensures.len ∙ length_part ys c.args.to n c.requires.target in
-    part_changed c.args.to n _ ys c.copy-from-slice.new.self c.requires.target long
+    let long = c.copy_from_slice.ensures.len ∙ length_part ys c.args.to n c.requires.target in
+    part_changed c.args.to n _ ys c.copy_from_slice.new.self c.requires.target long
     (λ i e h d.
-    get_or_default c.copy-from-slice.new.self i e d (omega arith)
-    ∙ ap (λ zs. get_or zs i d) c.copy-from-slice.ensures.after
+    get_or_default c.copy_from_slice.new.self i e d (omega arith)
+    ∙ ap (λ zs. get_or zs i d) c.copy_from_slice.ensures.after
     ∙ part_get from n i xs d c.requires.source h)

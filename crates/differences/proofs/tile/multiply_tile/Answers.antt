@@ -10,8 +10,8 @@ use Rattle.product.specs.Results.{run_row}
 use Rattle.differences.proofs.RowLaws.{multiplied_cong}
 use Rattle.differences.proofs.tile.multiply_tile.Goals as goal
 
-pub write-tile-requires : goal.write-tile-requires
-write-tile-requires g c = record { fits = c.requires.law.fits; tile = c.requires.tile; within = c.requires.law.within; small = c.requires.law.small; room = omega (arith, c.stage.auto.work) }
+pub write_tile-requires : goal.write_tile-requires
+write_tile-requires g c = record { fits = c.requires.law.fits; tile = c.requires.tile; within = c.requires.law.within; small = c.requires.law.small; room = omega (arith, c.stage.auto.work) }
 
 pub returns : goal.returns
 returns g c =
@@ -21,7 +21,7 @@ returns g c =
     let k = c.args.m.size in
     let old = c.args.ts.now in
     let work = c.stage.new.work in
-    changed_as t (InTile tile k) (InTile tile k) _ _ old c.write-tile.new.ts
+    changed_as t (InTile tile k) (InTile tile k) _ _ old c.write_tile.new.ts
     (λ b j i w h. h) (λ b j i w h. h)
     (λ b j i v w h q.
     q ∙ multiplied_cong s.ops (run_row s.means s.ops work tile.height (i - tile.row)) (row_of s.means s.ops t old b i) k (entry_of s.ops c.args.m (map s.means c.args.numbers.now)) j h.3
@@ -34,4 +34,4 @@ returns g c =
     c.stage.ensures l (i - tile.row) d n (omega arith)
     ∙ ap (λ z. get_or old (cell t tile.lane l z) d) back
     ∙ ap (λ z. get_or old (cell t z l i) d) (sym h.0))))
-    c.write-tile.ensures
+    c.write_tile.ensures

@@ -8,8 +8,8 @@ use Rattle.differences.proofs.tile.stage.Goals as goal
 pub loop-l-init : goal.loop-l-init
 loop-l-init g c = λ l r d h n. absurd (omega arith)
 
-pub copy-part-requires : goal.copy-part-requires
-copy-part-requires g c =
+pub copy_part-requires : goal.copy_part-requires
+copy_part-requires g c =
     let f = band_fits c.args.t (length c.args.ts.now) c.args.tile.lane c.loop-l.l 1 c.requires.fits c.requires.tile.lane (omega arith) in
     let b = block_fits c.loop-l.l c.args.k c.args.tile.height c.loop-l-test.true in
     record { source = omega arith; target = omega arith }
@@ -21,11 +21,11 @@ loop-l-preserved g c = λ m r d h n.
     elim (cases_eq m l) [
       | inl e ↦
           let p : c.start.result + r ≡ cell c.args.t c.args.tile.lane l (c.args.tile.row + r) = omega arith in
-          rw e (c.copy-part.ensures.written r d n d ∙ ap (λ z. get_or c.args.ts.now z d) p)
+          rw e (c.copy_part.ensures.written r d n d ∙ ap (λ z. get_or c.args.ts.now z d) p)
       | inr ne ↦
           let before : m < l = omega arith in
           let q : m * height + r < l * height = digits_lt before n in
-          c.copy-part.ensures.kept (m * height + r) d (inl q) ∙ c.loop-l.invariant m r d before n
+          c.copy_part.ensures.kept (m * height + r) d (inl q) ∙ c.loop-l.invariant m r d before n
     ]
 
 pub returns : goal.returns

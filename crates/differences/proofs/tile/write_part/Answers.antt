@@ -8,7 +8,7 @@ returns g c =
     let s = g.row.S-Scalar in
     let ts = c.args.ts.now in
     let part = length_part ts c.args.to c.args.height c.requires.target in
-    part_changed c.args.to c.args.height _ ts c.write-run.new.y c.requires.target (c.write-run.auto.y ∙ part)
+    part_changed c.args.to c.args.height _ ts c.write_run.new.y c.requires.target (c.write_run.auto.y ∙ part)
     (λ i d h.
-    c.write-run.ensures i d (omega arith)
+    c.write_run.ensures i d (omega arith)
     ∙ ap (λ n. staged_product s.means s.ops c.args.staged.now n c.args.m c.args.numbers.now c.args.j i) part)

@@ -6,8 +6,8 @@ use Rattle.differences.specs.Tiles.{InTile, staged_product}
 use Rattle.differences.proofs.Pieces.{InPiece, piece_changed}
 use Rattle.differences.proofs.tile.write_tile.Goals as goal
 
-pub write-part-requires : goal.write-part-requires
-write-part-requires g c =
+pub write_part-requires : goal.write_part-requires
+write_part-requires g c =
     let f = band_fits c.args.t (length c.args.ts.now) c.args.tile.lane c.loop-j.j 1 c.requires.fits c.requires.tile.lane (omega arith) in
     record { small = c.requires.small; j = c.loop-j-test.true; room = c.requires.room; target = omega arith }
 
@@ -21,13 +21,13 @@ loop-j-preserved g c =
     let tile = c.args.tile in
     let n = c.loop-j.j in
     let new = λ (j r : ℕ). staged_product s.means s.ops c.args.staged.now tile.height c.args.m c.args.numbers.now j r in
-    changed_more t (InTile tile n) (InPiece tile.lane n tile.row tile.height) (InTile tile (n + 1)) _ _ c.args.ts.now c.loop-j.ts c.write-part.new.ts
+    changed_more t (InTile tile n) (InPiece tile.lane n tile.row tile.height) (InTile tile (n + 1)) _ _ c.args.ts.now c.loop-j.ts c.write_part.new.ts
     (λ b j i w h. elim (cases_eq j n) [ inl e ↦ inl (h.0, e, h.1, h.2) | inr ne ↦ inr ((λ x. ne x.1), (h.0, h.1, h.2, omega arith)) ])
     (λ b j i h. (h.0, h.1, h.2, omega arith))
     (λ b j i w h. (h.0, h.2, h.3, omega arith))
     (λ b j i v w h q. q ∙ ap (λ z. new z (i - tile.row)) (sym h.1))
     c.loop-j.invariant
-    (piece_changed t tile.lane n tile.row tile.height c.start.result _ c.loop-j.ts c.write-part.new.ts c.start.ensures c.requires.tile.rows (omega arith) c.write-part.ensures)
+    (piece_changed t tile.lane n tile.row tile.height c.start.result _ c.loop-j.ts c.write_part.new.ts c.start.ensures c.requires.tile.rows (omega arith) c.write_part.ensures)
 
 pub returns : goal.returns
 returns g c = changed_as _ _ _ _ _ _ _ (λ b j i w h. (h.0, h.1, h.2, omega arith)) (λ b j i w h. (h.0, h.1, h.2, omega arith)) (λ b j i v w h q. q) c.loop-j.invariant

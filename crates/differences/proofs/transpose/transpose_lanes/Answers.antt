@@ -11,8 +11,8 @@ returns g c =
     let m = g.met.S.Scalar in
     let k = c.args.order in
     let row = row_of s.means s.ops c.args.t c.args.ts.now in
-    let sum = c.sum-columns.ensures in
-    let columns = c.multiply-lanes.ensures in
+    let sum = c.sum_columns.ensures in
+    let columns = c.multiply_lanes.ensures in
     record {
       columns = record { sum_in_d = sum; columns = columns };
       sums = λ e.

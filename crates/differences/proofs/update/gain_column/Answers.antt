@@ -10,8 +10,8 @@ use Rattle.differences.proofs.Pieces.{start_next, column_changed}
 use Rattle.differences.proofs.UpdateLaws.{gained_means}
 use Rattle.differences.proofs.update.gain_column.Goals as goal
 
-pub gain-run-requires : goal.gain-run-requires
-gain-run-requires g c =
+pub gain_run-requires : goal.gain_run-requires
+gain_run-requires g c =
     let t = c.args.t in
     let len = length c.args.ts.now in
     let to = c.start.ensures len (record { fits = c.requires.fits; within = omega arith }) c.requires.lane in
@@ -29,7 +29,7 @@ returns g c = λ n m old before next less len.
     let cur = c.args.ts.now in
     let to = c.start.ensures (length cur) (record { fits = c.requires.fits; within = omega arith }) c.requires.lane in
     let from = c.start-2.ensures (length cur) (record { fits = c.requires.fits; within = c.requires.within }) c.requires.lane in
-    changed_more t (LaneBand lane m (n - m)) (LaneBand lane j 1) (LaneBand lane j (n - j)) _ _ old cur c.gain-run.new.ts
+    changed_more t (LaneBand lane m (n - m)) (LaneBand lane j 1) (LaneBand lane j (n - j)) _ _ old cur c.gain_run.new.ts
     (λ b l i w h. elim (cases_eq l j) [ inl e ↦ inl (h.0, omega arith, omega arith) | inr ne ↦ inr ((λ x. omega arith), (h.0, omega arith, omega arith)) ])
     (λ b l i h. (h.0, omega arith, omega arith))
     (λ b l i w h. (h.0, omega arith, omega arith))
@@ -43,4 +43,4 @@ returns g c = λ n m old before next less len.
     ∙ gained in
     rw (h.0, column) here)
     before
-    (column_changed t lane j c.start.result _ cur c.gain-run.new.ts to (omega arith) c.gain-run.ensures)
+    (column_changed t lane j c.start.result _ cur c.gain_run.new.ts to (omega arith) c.gain_run.ensures)

@@ -12,8 +12,8 @@ use Rattle.differences.proofs.Pieces.{start_next, column_changed, rest_means}
 use Rattle.differences.proofs.RowLaws.{accumulated_updated, updated_last}
 use Rattle.differences.proofs.update.update_lane.Goals as goal
 
-pub difference-run-requires : goal.difference-run-requires
-difference-run-requires g c =
+pub difference_run-requires : goal.difference_run-requires
+difference_run-requires g c =
     let t = c.args.t in
     let len = length c.args.ts.now in
     let lane = c.args.lane in
@@ -25,8 +25,8 @@ difference-run-requires g c =
     let f = band_fits t len lane (k + 2) 1 c.requires.fits c.requires.lane (omega arith) in
     record { apart = omega arith; fits = omega arith; source = c.requires.source }
 
-pub accumulate-lane-requires : goal.accumulate-lane-requires
-accumulate-lane-requires g c = record { fits = rw c.difference-run.auto.ts c.requires.fits; lane = c.requires.lane; within = c.requires.within }
+pub accumulate_lane-requires : goal.accumulate_lane-requires
+accumulate_lane-requires g c = record { fits = rw c.difference_run.auto.ts c.requires.fits; lane = c.requires.lane; within = c.requires.within }
 
 pub returns : goal.returns
 returns g c =
@@ -35,7 +35,7 @@ returns g c =
     let k = c.args.order in
     let lane = c.args.lane in
     let old = c.args.ts.now in
-    let mid = c.difference-run.new.ts in
+    let mid = c.difference_run.new.ts in
     let ds = c.args.ds.now in
     let to : c.start.result ≡ start t lane (k + 2) = c.start.ensures (length old) (record { fits = c.requires.fits; within = c.requires.within }) c.requires.lane in
     let less : c.start-2.result ≡ start t lane (k + 1) = c.start-2.ensures (length old) (record { fits = c.requires.fits; within = omega arith }) c.requires.lane in
@@ -49,8 +49,8 @@ returns g c =
     q ∙ ap (λ z. s.ops.plus (at s.means s.ops ds (c.args.from + i)) (s.ops.minus z)) (before b i h.0)
     ∙ sym (updated_last s.ops (row_of s.means s.ops t old b i) (at s.means s.ops ds (c.args.from + i)) k)
     ∙ ap (λ z. new b z i) (sym column))
-    (column_changed t lane (k + 2) c.start.result _ old mid to c.requires.within c.difference-run.ensures) in
-    changed_more t (LaneBand lane (k + 2) 1) (LaneBand lane 0 (k + 2 - 0)) (LaneBand lane 0 (k + 3)) (meant s.means new) _ old mid c.accumulate-lane.new.ts
+    (column_changed t lane (k + 2) c.start.result _ old mid to c.requires.within c.difference_run.ensures) in
+    changed_more t (LaneBand lane (k + 2) 1) (LaneBand lane 0 (k + 2 - 0)) (LaneBand lane 0 (k + 3)) (meant s.means new) _ old mid c.accumulate_lane.new.ts
     (λ b j i w h. elim (cases_eq j (k + 2)) [ inl e ↦ inr ((λ x. omega arith), (h.0, omega arith, omega arith)) | inr ne ↦ inl (h.0, omega arith, omega arith) ])
     (λ b j i h. (h.0, omega arith, omega arith))
     (λ b j i w h. (h.0, omega arith, omega arith))
@@ -60,8 +60,8 @@ returns g c =
     let there : In t b (k + 2) i = record { lane = w.lane; col = c.requires.within; row = w.row } in
     let fits = cell_fits t (length old) b (k + 2) i c.requires.fits there in
     q ∙ accumulated_updated s.ops x (row_of s.means s.ops t mid b i) d k j
-    (at_is s.means s.ops mid (cell t b (k + 2) i) _ (omega (arith, c.difference-run.auto.ts)) (λ e. last.written b (k + 2) i e there (h.0, omega arith, omega arith)) ∙ updated_last s.ops x d k)
-    (λ l n. rest_means s.means s.ops t (LaneBand lane (k + 2) 1) _ old mid c.requires.fits c.difference-run.auto.ts last b l i (record { lane = w.lane; col = omega arith; row = w.row }) (λ z. omega arith))
+    (at_is s.means s.ops mid (cell t b (k + 2) i) _ (omega (arith, c.difference_run.auto.ts)) (λ e. last.written b (k + 2) i e there (h.0, omega arith, omega arith)) ∙ updated_last s.ops x d k)
+    (λ l n. rest_means s.means s.ops t (LaneBand lane (k + 2) 1) _ old mid c.requires.fits c.difference_run.auto.ts last b l i (record { lane = w.lane; col = omega arith; row = w.row }) (λ z. omega arith))
     (omega arith))
     last
-    c.accumulate-lane.ensures
+    c.accumulate_lane.ensures

@@ -5,8 +5,8 @@ use Rattle.shape.proofs.Cells.{lanes_more, lanes_all}
 use Rattle.elementwise.proofs.Bands.{place_in}
 use Rattle.elementwise.proofs.revised.revise_lanes.Goals as goal
 
-pub revise-part-requires : goal.revise-part-requires
-revise-part-requires g c =
+pub revise_part-requires : goal.revise_part-requires
+revise_part-requires g c =
     let y = c.args.y in
     let yl = length c.args.ys.now in
     let lane = c.loop-lane.lane in

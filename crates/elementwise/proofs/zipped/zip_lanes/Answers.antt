@@ -6,16 +6,16 @@ use Rattle.shape.proofs.Cells.{lanes_more, lanes_all}
 use Rattle.elementwise.proofs.Bands.{read_below, reads_from, place_in}
 use Rattle.elementwise.proofs.zipped.zip_lanes.Goals as goal
 
-pub zip-part-requires : goal.zip-part-requires
-zip-part-requires g c =
+pub zip_part-requires : goal.zip_part-requires
+zip_part-requires g c =
     let x = c.args.x in
     let y = c.args.y in
     let xl = length c.args.xs.now in
     let yl = length c.args.ys.now in
     let lane = c.loop-lane.lane in
     let l = c.loop-lane-test.true in
-    let read = c.lane-for.result in
-    let below : read < x.of.lanes = read_below x xl y yl c.requires lane read c.start-from.result l c.lane-for.ensures c.start-from.ensures in
+    let read = c.lane_for.result in
+    let below : read < x.of.lanes = read_below x xl y yl c.requires lane read c.start-from.result l c.lane_for.ensures c.start-from.ensures in
     let from : c.start-from.result ≡ start x.of read x.first = c.start-from.ensures xl c.requires.source (omega arith) below in
     let to : c.start.result ≡ start y.of lane y.first = c.start.ensures yl c.requires.target (omega arith) l in
     let s : start x.of read x.first + x.count * x.of.rows ≤ xl = band_fits x.of xl read x.first x.count c.requires.source below c.requires.source_within in

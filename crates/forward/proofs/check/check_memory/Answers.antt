@@ -3,4 +3,4 @@ use Rattle.forward.proofs.Records.{memory_passed}
 use Rattle.forward.proofs.check.check_memory.Goals as goal
 
 pub returns : goal.returns
-returns c = record { verdict = c.test-memory.ensures; lawful = λ e. memory_passed _ _ _ _ _ (sym c.test-memory.ensures ∙ e) }
+returns c = record { verdict = c.test_memory.ensures; lawful = λ e. memory_passed _ _ _ _ _ (sym c.test_memory.ensures ∙ e) }

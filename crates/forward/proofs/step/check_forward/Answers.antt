@@ -8,13 +8,13 @@ use Rattle.forward.specs.Tests.{memory_tests}
 use Rattle.forward.proofs.Taken.{first_before, first_after, number_some}
 use Rattle.forward.proofs.step.check_forward.Goals as goal
 
-pub returns-in-err-check-memory : goal.returns-in-err-check-memory
-returns-in-err-check-memory g c =
+pub returns-in_err-check_memory : goal.returns-in_err-check_memory
+returns-in_err-check_memory g c =
     let t = c.args.t in
     let before = memory_tests t c.args.table c.args.first c.args.second c.args.work in
     let after = step_tests t.rows t.cols (step_of g.row.S-Scalar.means c.args.x c.args.numbers.now c.args.indices.now) in
-    let f = c.in-err-check-memory.field-0.0 in
-    let e = c.in-err-check-memory.ensures.verdict in
+    let f = c.in_err-check_memory.field-0.0 in
+    let e = c.in_err-check_memory.ensures.verdict in
     let p = err_from_is_err_and c.from-residual.result c.from-residual.ensures.1 in
     rw (p.1, p.2) (record {
       verdict = e ∙ sym (first_before before after (λ z. number_some f (e ∙ z)));
@@ -29,8 +29,8 @@ returns g c =
     let t = c.args.t in
     let before = memory_tests t c.args.table c.args.first c.args.second c.args.work in
     let x = step_of o.means c.args.x c.args.numbers.now c.args.indices.now in
-    let told = c.in-ok-check-memory.ensures in
-    let e = c.check-step.ensures in
+    let told = c.in_ok-check_memory.ensures in
+    let e = c.check_step.ensures in
     record {
       verdict = e ∙ sym (first_after before (step_tests t.rows t.cols x) refl (sym told.verdict));
       room = λ _. told.lawful refl;

@@ -12,6 +12,6 @@ returns g c = λ us vs b l.
     let ds = c.args.ds.now in
     let ns = c.args.numbers.now in
     let passes = mul_cols_passes t (length ds) n (length ns) (length c.args.work.now) c.requires.table c.requires.room c.requires.within c.requires.few c.requires.numbers in
-    let done = columns_multiplied s.means s.ops t n (number s.ops n (map s.means ns)) ds c.mul-cols-by.new.ts c.requires.table c.mul-cols-by.auto.ts
-    (c.mul-cols-by.ensures.accepted (c.mul-cols-by.ensures.verdict ∙ passes)) in
+    let done = columns_multiplied s.means s.ops t n (number s.ops n (map s.means ns)) ds c.mul_cols_by.new.ts c.requires.table c.mul_cols_by.auto.ts
+    (c.mul_cols_by.ensures.accepted (c.mul_cols_by.ensures.verdict ∙ passes)) in
     record { table = λ j i h k. done b j i (record { lane = l; col = h; row = k }); first = λ i h. refl; second = λ i h. refl }

@@ -10,11 +10,11 @@ returns g c = λ vs b l.
     let t = c.args.t in
     let ds = c.args.ds.now in
     let us = c.args.us.now in
-    let done = zipped s.means s.ops (λ p q. p) (λ p q v. v ≡ p) (vector_of t) c.vector-rows.result us (column_of t c.args.column) c.column.result ds c.copy-from.new.ys _
+    let done = zipped s.means s.ops (λ p q. p) (λ p q v. v ≡ p) (vector_of t) c.vector-rows.result us (column_of t c.args.column) c.column.result ds c.copy_from.new.ys _
     (λ p q v e. ap s.means e) c.vector-rows.ensures c.column.ensures (vector_in t (length us) c.requires.first) (record { fits = c.requires.table; within = c.requires.within }) refl refl
-    c.copy-from.auto.ys c.copy-from.ensures.verdict c.copy-from.ensures.accepted in
+    c.copy_from.auto.ys c.copy_from.ensures.verdict c.copy_from.ensures.accepted in
     record {
-      table = λ j i h k. column_put s.means s.ops t c.args.column _ ds c.copy-from.new.ys done b j i (record { lane = l; col = h; row = k });
+      table = λ j i h k. column_put s.means s.ops t c.args.column _ ds c.copy_from.new.ys done b j i (record { lane = l; col = h; row = k });
       first = λ i h. refl;
       second = λ i h. refl;
     }

@@ -16,6 +16,6 @@ returns g c = λ vs b l.
     let us = c.args.us.now in
     let passes = update_passes t (length ds) n (vector_of t) (length us) c.requires.table (vector_in t (length us) c.requires.first) c.requires.within refl refl in
     let named = ap (λ v. first_of (update_tests t (length ds) n v (length us))) c.vector-rows.ensures in
-    let done = columns_updated s.means s.ops t n (vector_of t) c.vector-rows.result us ds c.update-backward-diff.new.ts c.vector-rows.ensures refl c.requires.table c.update-backward-diff.auto.ts
-    (c.update-backward-diff.ensures.accepted (c.update-backward-diff.ensures.verdict ∙ named ∙ passes)) in
+    let done = columns_updated s.means s.ops t n (vector_of t) c.vector-rows.result us ds c.update_backward_diff.new.ts c.vector-rows.ensures refl c.requires.table c.update_backward_diff.auto.ts
+    (c.update_backward_diff.ensures.accepted (c.update_backward_diff.ensures.verdict ∙ named ∙ passes)) in
     record { table = λ j i h k. done b j i (record { lane = l; col = h; row = k }); first = λ i h. refl; second = λ i h. refl }

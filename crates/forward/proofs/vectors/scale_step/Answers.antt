@@ -13,6 +13,6 @@ returns g c = λ ds vs b l.
     let ns = c.args.numbers.now in
     let number = at_read s.means s.ops ns 0 c.index-numbers-0.result (omega (arith, c.requires.numbers)) c.index-numbers-0.is in
     let done = turned s.means s.ops (λ q. s.ops.times q (at s.means s.ops ns 0)) (λ q v. s.means v ≡ s.ops.times (s.means q) (s.means c.index-numbers-0.result))
-    (vector_of t) c.vector-rows.result us c.mul-assign.new.ys _ (λ q v e. e ∙ ap (λ x. s.ops.times (s.means q) x) (sym number))
-    c.vector-rows.ensures (vector_in t (length us) c.requires.first) c.mul-assign.auto.ys c.mul-assign.ensures.verdict c.mul-assign.ensures.accepted in
+    (vector_of t) c.vector-rows.result us c.mul_assign.new.ys _ (λ q v e. e ∙ ap (λ x. s.ops.times (s.means q) x) (sym number))
+    c.vector-rows.ensures (vector_in t (length us) c.requires.first) c.mul_assign.auto.ys c.mul_assign.ensures.verdict c.mul_assign.ensures.accepted in
     record { table = λ j i h k. refl; first = λ i h. done.rows b i l h; second = λ i h. refl }

@@ -32,10 +32,10 @@ returns g c = λ vs b l.
     let law = vector_in t (length us) c.requires.first in
     let passes = gemv_cols_passes t (length ds) start end (length xs) (vector_of t) (length us) c.requires.table law c.requires.order c.requires.within c.requires.few (omega (arith, c.requires.numbers)) refl refl in
     let named = ap (λ v. first_of (gemv_cols_tests t (length ds) start end (length xs) v (length us))) c.vector-rows.ensures in
-    let done = columns_summed s.means s.ops x y t ds start (end - start) xs (λ m. at s.means s.ops ns (2 + m)) (vector_of t) us c.gemv-cols.new.ys law refl c.gemv-cols.auto.ys
+    let done = columns_summed s.means s.ops x y t ds start (end - start) xs (λ m. at s.means s.ops ns (2 + m)) (vector_of t) us c.gemv_cols.new.ys law refl c.gemv_cols.auto.ys
     (λ m h. at_rest s.means s.ops ns 2 m)
-    (subst (λ (v : Column). GemvCols s.means s.ops (summed s.ops) x t ds start (end - start) xs y v us c.gemv-cols.new.ys) c.vector-rows.ensures
-    (c.gemv-cols.ensures.accepted (c.gemv-cols.ensures.verdict ∙ named ∙ passes))) in
+    (subst (λ (v : Column). GemvCols s.means s.ops (summed s.ops) x t ds start (end - start) xs y v us c.gemv_cols.new.ys) c.vector-rows.ensures
+    (c.gemv_cols.ensures.accepted (c.gemv_cols.ensures.verdict ∙ named ∙ passes))) in
     record {
       table = λ j i h k. refl;
       first = λ i h.

@@ -5,8 +5,8 @@ use Rattle.index.specs.Indices.{settled}
 use Rattle.index.proofs.Settles.{settled_same}
 use Rattle.index.proofs.cells.set_part.Goals as goal
 
-pub set-run-requires : goal.set-run-requires
-set-run-requires g c =
+pub set_run-requires : goal.set_run-requires
+set_run-requires g c =
     let x = length_part c.args.xs.now c.args.from c.args.m c.requires.source in
     let y = length_part c.args.ys.now c.args.to c.args.n c.requires.target in
     record { pairs = c.requires.pairs; inside = rw y c.requires.inside; rows = rw x c.requires.rows }
@@ -22,9 +22,9 @@ returns g c =
     let m = c.args.m in
     let n = c.args.n in
     let part = length_part ys to n c.requires.target in
-    part_changed to n _ ys c.set-run.new.y c.requires.target (c.set-run.auto.y ∙ part)
+    part_changed to n _ ys c.set_run.new.y c.requires.target (c.set_run.auto.y ∙ part)
     (λ k e h d.
-    get_or_default c.set-run.new.y k e d (omega (arith, c.set-run.auto.y))
-    ∙ c.set-run.ensures k d (omega arith)
+    get_or_default c.set_run.new.y k e d (omega (arith, c.set_run.auto.y))
+    ∙ c.set_run.ensures k d (omega arith)
     ∙ settled_same _ (λ p. get_or xs (from + get_or src p 0) d) dst 0 k _ (λ p _ l. part_get from m (get_or src p 0) xs d c.requires.source (c.requires.rows p (omega arith)))
     ∙ ap (λ z. settled dst 0 k (λ p. get_or xs (from + get_or src p 0) d) z) (part_get to n k ys d c.requires.target h))

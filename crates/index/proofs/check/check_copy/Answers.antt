@@ -3,4 +3,4 @@ use Rattle.index.proofs.Tested.{copy_passed}
 use Rattle.index.proofs.check.check_copy.Goals as goal
 
 pub returns : goal.returns
-returns c = record { verdict = c.test-copy.ensures; lawful = λ e. copy_passed _ _ _ _ _ (sym c.test-copy.ensures ∙ e) }
+returns c = record { verdict = c.test_copy.ensures; lawful = λ e. copy_passed _ _ _ _ _ (sym c.test_copy.ensures ∙ e) }

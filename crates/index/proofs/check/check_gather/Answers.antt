@@ -3,4 +3,4 @@ use Rattle.index.proofs.Tested.{gather_passed}
 use Rattle.index.proofs.check.check_gather.Goals as goal
 
 pub returns : goal.returns
-returns c = record { verdict = c.test-gather.ensures; lawful = λ e. gather_passed _ _ _ _ _ (sym c.test-gather.ensures ∙ e) }
+returns c = record { verdict = c.test_gather.ensures; lawful = λ e. gather_passed _ _ _ _ _ (sym c.test_gather.ensures ∙ e) }

@@ -5,8 +5,8 @@ use Rattle.index.specs.Routes.{became}
 use Rattle.index.proofs.Settles.{became_same}
 use Rattle.index.proofs.lanes.route_part.Goals as goal
 
-pub route-run-requires : goal.route-run-requires
-route-run-requires g c =
+pub route_run-requires : goal.route_run-requires
+route_run-requires g c =
     let x = length_part c.args.xs.now c.args.from c.args.m c.requires.source in
     let y = length_part c.args.ys.now c.args.to c.args.n c.requires.target in
     rw (x, y) c.requires.ready
@@ -22,9 +22,9 @@ returns g c =
     let m = c.args.m in
     let n = c.args.n in
     let part = length_part ys to n c.requires.target in
-    part_changed to n _ ys c.route-run.new.y c.requires.target (c.route-run.auto.y ∙ part)
+    part_changed to n _ ys c.route_run.new.y c.requires.target (c.route_run.auto.y ∙ part)
     (λ k e h d.
-    get_or_default c.route-run.new.y k e d (omega (arith, c.route-run.auto.y))
-    ∙ c.route-run.ensures k d (omega arith)
+    get_or_default c.route_run.new.y k e d (omega (arith, c.route_run.auto.y))
+    ∙ c.route_run.ensures k d (omega arith)
     ∙ became_same route list m n _ (λ i. get_or xs (from + i) d) _ k c.requires.ready h (λ i l. part_get from m i xs d c.requires.source l)
     ∙ ap (λ z. became route list (λ i. get_or xs (from + i) d) z k) (part_get to n k ys d c.requires.target h))

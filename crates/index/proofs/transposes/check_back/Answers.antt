@@ -3,4 +3,4 @@ use Rattle.index.proofs.Tested.{back_passed}
 use Rattle.index.proofs.transposes.check_back.Goals as goal
 
 pub returns : goal.returns
-returns c = record { verdict = c.test-back.ensures; lawful = λ e. back_passed _ _ _ _ _ (sym c.test-back.ensures ∙ e) }
+returns c = record { verdict = c.test_back.ensures; lawful = λ e. back_passed _ _ _ _ _ (sym c.test_back.ensures ∙ e) }

@@ -6,8 +6,8 @@ use Rattle.index.specs.Transposes.{lane}
 use Rattle.index.proofs.Backs.{gathered_like}
 use Rattle.index.proofs.transposes.gather_back_lanes.Goals as goal
 
-pub gather-back-part-requires : goal.gather-back-part-requires
-gather-back-part-requires g c =
+pub gather_back_part-requires : goal.gather_back_part-requires
+gather_back_part-requires g c =
     let p = c.args.p in
     let q = c.args.q in
     let pl = length c.args.ps.now in
@@ -34,7 +34,7 @@ loop-lane-preserved g c =
     let k : b < p.of.lanes = omega (arith, c.requires.lanes) in
     let from = c.start.ensures (length ps) c.requires.first k in
     let to = c.start-in-loop-lane.ensures (length old) c.requires.second l in
-    column_more q.of b q.col c.start-in-loop-lane.result _ _ old cur c.gather-back-part.new.qs to c.requires.second.within
+    column_more q.of b q.col c.start-in-loop-lane.result _ _ old cur c.gather_back_part.new.qs to c.requires.second.within
     (λ i v w m d.
     m d
     ∙ gathered_like s.ops c.args.list.now 0 q.of.rows _ (lane s.means p ps b d) _ (lane s.means q old b d) c.requires.inside
@@ -42,7 +42,7 @@ loop-lane-preserved g c =
     (λ j h. ap (λ a. s.means (get_or cur (a + j) d)) to ∙ ap s.means (c.loop-lane.invariant.kept b q.col j d (record { lane = l; col = c.requires.second.within; row = h }) (λ z. omega arith)))
     i w.row)
     c.loop-lane.invariant
-    c.gather-back-part.ensures
+    c.gather_back_part.ensures
 
 pub returns : goal.returns
 returns g c = column_all _ _ _ _ _ _ c.loop-lane-test.false c.loop-lane.invariant

@@ -4,8 +4,8 @@ use Rattle.shape.proofs.Parts.{part_get, length_part, part_changed}
 use Rattle.index.proofs.Backs.{gathered_like}
 use Rattle.index.proofs.transposes.gather_back_part.Goals as goal
 
-pub gather-back-run-requires : goal.gather-back-run-requires
-gather-back-run-requires g c =
+pub gather_back_run-requires : goal.gather_back_run-requires
+gather_back_run-requires g c =
     let p = length_part c.args.ps.now c.args.from c.args.m c.requires.first in
     let q = length_part c.args.qs.now c.args.to c.args.n c.requires.second in
     record { long = omega (arith, c.requires.long); inside = rw q c.requires.inside }
@@ -20,10 +20,10 @@ returns g c =
     let m = c.args.m in
     let n = c.args.n in
     let part = length_part qs to n c.requires.second in
-    part_changed to n _ qs c.gather-back-run.new.q c.requires.second (c.gather-back-run.auto.q ∙ part)
+    part_changed to n _ qs c.gather_back_run.new.q c.requires.second (c.gather_back_run.auto.q ∙ part)
     (λ k e h d.
-    ap s.means (get_or_default c.gather-back-run.new.q k e d (omega (arith, c.gather-back-run.auto.q)))
-    ∙ c.gather-back-run.ensures k d (omega arith)
+    ap s.means (get_or_default c.gather_back_run.new.q k e d (omega (arith, c.gather_back_run.auto.q)))
+    ∙ c.gather_back_run.ensures k d (omega arith)
     ∙ gathered_like s.ops c.args.list.now 0 n _ (λ i. s.means (get_or ps (from + i) d)) _ (λ l. s.means (get_or qs (to + l) d)) c.requires.inside
     (λ j a b. ap s.means (part_get from m j ps d c.requires.first (omega (arith, c.requires.long))))
     (λ l b. ap s.means (part_get to n l qs d c.requires.second b)) k h)

@@ -6,8 +6,8 @@ use Rattle.index.specs.Transposes.{lane}
 use Rattle.index.proofs.Backs.{scattered_like}
 use Rattle.index.proofs.transposes.scatter_back_lanes.Goals as goal
 
-pub scatter-back-part-requires : goal.scatter-back-part-requires
-scatter-back-part-requires g c =
+pub scatter_back_part-requires : goal.scatter_back_part-requires
+scatter_back_part-requires g c =
     let p = c.args.p in
     let q = c.args.q in
     let pl = length c.args.ps.now in
@@ -42,10 +42,10 @@ loop-lane-preserved g c =
     scattered_like s.ops c.args.list.now 0 p.of.rows q.of.rows _ (lane s.means p ps b d) _ (lane s.means q qs b d) c.requires.inside (omega (arith, c.requires.long))
     (λ j h. ap (λ a. s.means (get_or ps' (a + j) d)) from ∙ ap s.means (c.loop-lane.invariant.0.kept b p.col j d (record { lane = k; col = c.requires.first.within; row = h }) (λ z. omega arith)))
     (λ j h. ap (λ a. s.means (get_or qs' (a + j) d)) to ∙ ap s.means (c.loop-lane.invariant.1.kept b q.col j d (record { lane = l; col = c.requires.second.within; row = h }) (λ z. omega arith))) in (
-      column_more p.of b p.col c.start.result _ _ ps ps' c.scatter-back-part.new.ps from c.requires.first.within
-          (λ i v w m d. m d ∙ (like d).first i w.row) c.loop-lane.invariant.0 c.scatter-back-part.ensures.first,
-      column_more q.of b q.col c.start-in-loop-lane.result _ _ qs qs' c.scatter-back-part.new.qs to c.requires.second.within
-          (λ i v w m d. m d ∙ (like d).second i w.row) c.loop-lane.invariant.1 c.scatter-back-part.ensures.second,
+      column_more p.of b p.col c.start.result _ _ ps ps' c.scatter_back_part.new.ps from c.requires.first.within
+          (λ i v w m d. m d ∙ (like d).first i w.row) c.loop-lane.invariant.0 c.scatter_back_part.ensures.first,
+      column_more q.of b q.col c.start-in-loop-lane.result _ _ qs qs' c.scatter_back_part.new.qs to c.requires.second.within
+          (λ i v w m d. m d ∙ (like d).second i w.row) c.loop-lane.invariant.1 c.scatter_back_part.ensures.second,
     )
 
 pub returns : goal.returns

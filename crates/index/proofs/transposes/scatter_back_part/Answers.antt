@@ -4,8 +4,8 @@ use Rattle.shape.proofs.Parts.{part_get, length_part, part_changed}
 use Rattle.index.proofs.Backs.{scattered_like}
 use Rattle.index.proofs.transposes.scatter_back_part.Goals as goal
 
-pub scatter-back-run-requires : goal.scatter-back-run-requires
-scatter-back-run-requires g c =
+pub scatter_back_run-requires : goal.scatter_back_run-requires
+scatter_back_run-requires g c =
     let p = length_part c.args.ps.now c.args.from c.args.m c.requires.first in
     let q = length_part c.args.qs.now c.args.to c.args.n c.requires.second in
     record { long = omega (arith, c.requires.long); inside = rw q c.requires.inside }
@@ -25,12 +25,12 @@ returns g c =
     scattered_like s.ops c.args.list.now 0 m n _ (λ i. s.means (get_or ps (from + i) d)) _ (λ l. s.means (get_or qs (to + l) d)) c.requires.inside (omega (arith, c.requires.long))
     (λ j b. ap s.means (part_get from m j ps d c.requires.first b)) (λ l b. ap s.means (part_get to n l qs d c.requires.second b)) in
     record {
-      first = part_changed from m _ ps c.scatter-back-run.new.p c.requires.first (c.scatter-back-run.auto.p ∙ p)
+      first = part_changed from m _ ps c.scatter_back_run.new.p c.requires.first (c.scatter_back_run.auto.p ∙ p)
           (λ k e h d.
-          ap s.means (get_or_default c.scatter-back-run.new.p k e d (omega (arith, c.scatter-back-run.auto.p)))
-          ∙ c.scatter-back-run.ensures.first k d (omega arith) ∙ (like d).first k h);
-      second = part_changed to n _ qs c.scatter-back-run.new.q c.requires.second (c.scatter-back-run.auto.q ∙ q)
+          ap s.means (get_or_default c.scatter_back_run.new.p k e d (omega (arith, c.scatter_back_run.auto.p)))
+          ∙ c.scatter_back_run.ensures.first k d (omega arith) ∙ (like d).first k h);
+      second = part_changed to n _ qs c.scatter_back_run.new.q c.requires.second (c.scatter_back_run.auto.q ∙ q)
           (λ k e h d.
-          ap s.means (get_or_default c.scatter-back-run.new.q k e d (omega (arith, c.scatter-back-run.auto.q)))
-          ∙ c.scatter-back-run.ensures.second k d (omega arith) ∙ (like d).second k h);
+          ap s.means (get_or_default c.scatter_back_run.new.q k e d (omega (arith, c.scatter_back_run.auto.q)))
+          ∙ c.scatter_back_run.ensures.second k d (omega arith) ∙ (like d).second k h);
     }

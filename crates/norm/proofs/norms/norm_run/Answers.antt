@@ -21,4 +21,4 @@ returns g c =
     let s = g.S.Ordered in
     let f = λ (i : _). weighted s.ops s.order (at s.means s.ops c.args.x.now i) (at s.means s.ops c.args.y.now i) (s.means c.args.rtol) (at s.means s.ops c.args.atol.now i) in
     let end : c.loop-i.i ≡ length c.args.x.now = omega arith in
-    c.div.ensures ∙ ap₂ s.order.over (c.loop-i.invariant ∙ ap (sum s.ops f) end) c.of-count.ensures
+    c.div.ensures ∙ ap₂ s.order.over (c.loop-i.invariant ∙ ap (sum s.ops f) end) c.of_count.ensures

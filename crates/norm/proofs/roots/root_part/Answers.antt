@@ -4,8 +4,8 @@ use Rattle.norm.proofs.Lent.{at_part}
 use Rattle.norm.proofs.Signs.{says_at}
 use Rattle.norm.proofs.roots.root_part.Goals as goal
 
-pub root-run-requires : goal.root-run-requires
-root-run-requires g c =
+pub root_run-requires : goal.root_run-requires
+root_run-requires g c =
     let a = length_part c.args.g0s.now c.args.from0 c.args.rows c.requires.first in
     let b = length_part c.args.g1s.now c.args.from1 c.args.rows c.requires.second in
     record { same = omega arith; few = omega (arith, c.requires.few) }
@@ -16,4 +16,4 @@ returns g c =
     let n = c.args.rows in
     says_at s.means s.ops s.order _ _ _ _ _ n _ _ _ _ (length_part c.args.g0s.now c.args.from0 n c.requires.first)
     (λ i h. at_part s.means s.ops c.args.g0s.now c.args.from0 n i c.requires.first h)
-    (λ i h. at_part s.means s.ops c.args.g1s.now c.args.from1 n i c.requires.second h) refl c.root-run.ensures
+    (λ i h. at_part s.means s.ops c.args.g1s.now c.args.from1 n i c.requires.second h) refl c.root_run.ensures

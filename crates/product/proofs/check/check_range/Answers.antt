@@ -3,4 +3,4 @@ use Rattle.product.proofs.Passed.{range_passed}
 use Rattle.product.proofs.check.check_range.Goals as goal
 
 pub returns : goal.returns
-returns c = record { verdict = c.test-range.ensures; lawful = λ e. range_passed _ _ _ _ _ _ _ _ (sym c.test-range.ensures ∙ e) }
+returns c = record { verdict = c.test_range.ensures; lawful = λ e. range_passed _ _ _ _ _ _ _ _ (sym c.test_range.ensures ∙ e) }

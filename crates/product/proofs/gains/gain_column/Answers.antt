@@ -9,9 +9,9 @@ returns g c =
     let y = c.args.y.now in
     let to = c.args.to in
     let rows = length c.args.p.now in
-    let run = c.gain-run.auto.y ∙ length_part y to rows c.requires in
-    part_changed to rows _ y c.gain-run.new.y c.requires run
+    let run = c.gain_run.auto.y ∙ length_part y to rows c.requires in
+    part_changed to rows _ y c.gain_run.new.y c.requires run
     (λ i e h.
     let old = at_part s.means s.ops to rows i y c.requires h in
-    let sum = c.gain-run.ensures i e (omega arith) in
+    let sum = c.gain_run.ensures i e (omega arith) in
     cc)

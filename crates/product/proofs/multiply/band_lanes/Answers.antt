@@ -3,14 +3,14 @@ use Rattle.shape.proofs.Cells.{lanes_none, column_all}
 use Rattle.product.proofs.Products.{lane_placed, runs_inside, lane_more}
 use Rattle.product.proofs.multiply.band_lanes.Goals as goal
 
-pub sum-part-requires : goal.sum-part-requires
-sum-part-requires g c =
+pub sum_part-requires : goal.sum_part-requires
+sum_part-requires g c =
     let tl = length c.args.ts.now in
     let xl = length c.args.xs.now in
     let yl = length c.args.ys.now in
     let l = c.loop-lane-test.true in
     let placed = lane_placed c.args.t tl c.args.x xl c.args.y yl c.requires c.loop-lane.lane c.start-from.result c.start-with.result c.start-to.result l
-    c.lane-for.result c.lane-for-in-loop-lane.result c.lane-for.ensures c.start-from.ensures c.lane-for-in-loop-lane.ensures c.start-with.ensures c.start-to.ensures in
+    c.lane_for.result c.lane_for-in-loop-lane.result c.lane_for.ensures c.start-from.ensures c.lane_for-in-loop-lane.ensures c.start-with.ensures c.start-to.ensures in
     let inside = runs_inside c.args.t tl c.args.x xl c.args.y yl c.requires c.loop-lane.lane c.start-from.result c.start-with.result c.start-to.result l placed in
     record { table = inside.table; source = inside.source; target = rw c.loop-lane.auto.ys inside.target }
 
@@ -25,9 +25,9 @@ loop-lane-preserved g c =
     let old = c.args.ys.now in
     let l = c.loop-lane-test.true in
     let placed = lane_placed c.args.t (length ts) c.args.x (length xs) c.args.y (length old) c.requires c.loop-lane.lane c.start-from.result c.start-with.result c.start-to.result l
-    c.lane-for.result c.lane-for-in-loop-lane.result c.lane-for.ensures c.start-from.ensures c.lane-for-in-loop-lane.ensures c.start-with.ensures c.start-to.ensures in
+    c.lane_for.result c.lane_for-in-loop-lane.result c.lane_for.ensures c.start-from.ensures c.lane_for-in-loop-lane.ensures c.start-with.ensures c.start-to.ensures in
     lane_more s.means s.ops (s.means c.args.a.0) (s.means c.args.b.0) c.args.t ts c.args.x xs c.args.y old c.requires
-    c.loop-lane.lane c.start-from.result c.start-with.result c.start-to.result c.loop-lane.ys c.sum-part.new.ys l c.loop-lane.auto.ys placed c.loop-lane.invariant c.sum-part.ensures
+    c.loop-lane.lane c.start-from.result c.start-with.result c.start-to.result c.loop-lane.ys c.sum_part.new.ys l c.loop-lane.auto.ys placed c.loop-lane.invariant c.sum_part.ensures
 
 pub returns : goal.returns
 returns g c = column_all _ _ _ _ _ _ c.loop-lane-test.false c.loop-lane.invariant

@@ -4,15 +4,15 @@ use Rattle.shape.proofs.Broadcast.{reads_from}
 use Rattle.product.proofs.Updates.{runs_inside, spread_more}
 use Rattle.product.proofs.outer.spread_lanes.Goals as goal
 
-pub gain-part-requires : goal.gain-part-requires
-gain-part-requires g c =
+pub gain_part-requires : goal.gain_part-requires
+gain_part-requires g c =
     let t = c.args.t in
     let p = c.args.p in
     let tl = length c.args.ts.now in
     let pl = length c.args.ps.now in
     let lane = c.loop-lane.lane in
     let l = c.loop-lane-test.true in
-    let from = reads_from p pl t.lanes lane c.lane-for.result c.start-from.result c.requires.column l c.requires.table.few_lanes c.lane-for.ensures c.start-from.ensures in
+    let from = reads_from p pl t.lanes lane c.lane_for.result c.start-from.result c.requires.column l c.requires.table.few_lanes c.lane_for.ensures c.start-from.ensures in
     let first : c.args.start ≤ t.cols = omega (arith, c.requires.within) in
     let to = c.start.ensures tl c.requires.table first l in
     let inside = runs_inside t tl c.args.start (length c.args.x.now) p pl lane c.start-from.result c.start.result c.requires l from to in
@@ -30,11 +30,11 @@ loop-lane-preserved g c =
     let old = c.args.ts.now in
     let lane = c.loop-lane.lane in
     let l = c.loop-lane-test.true in
-    let from = reads_from p (length ps) t.lanes lane c.lane-for.result c.start-from.result c.requires.column l c.requires.table.few_lanes c.lane-for.ensures c.start-from.ensures in
+    let from = reads_from p (length ps) t.lanes lane c.lane_for.result c.start-from.result c.requires.column l c.requires.table.few_lanes c.lane_for.ensures c.start-from.ensures in
     let first : c.args.start ≤ t.cols = omega (arith, c.requires.within) in
     let to = c.start.ensures (length old) c.requires.table first l in
     spread_more s.means s.ops (s.means c.args.a.0) c.args.x.now p ps t c.args.start old c.requires
-    lane c.start-from.result c.start.result c.loop-lane.ts c.gain-part.new.ys l c.loop-lane.auto.ts from to c.loop-lane.invariant c.gain-part.ensures
+    lane c.start-from.result c.start.result c.loop-lane.ts c.gain_part.new.ys l c.loop-lane.auto.ts from to c.loop-lane.invariant c.gain_part.ensures
 
 pub returns : goal.returns
 returns g c = lanes_all _ _ _ _ _ _ _ c.loop-lane-test.false c.loop-lane.invariant

@@ -6,5 +6,5 @@ pub returns : goal.returns
 returns g c = λ i e h.
     let s = g.row.S-Scalar in
     let d = at_part s.means s.ops c.args.from (length c.args.y.now) i c.args.d.now c.requires (omega arith) in
-    let sum = c.add-run.ensures i e h in
+    let sum = c.add_run.ensures i e h in
     cc

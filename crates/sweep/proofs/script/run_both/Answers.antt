@@ -14,10 +14,10 @@ returns g c =
     let t = a.t in
     let xs = steps_of s.means a.script.now a.numbers.now a.indices.now in
     let w = weights a.es.now a.ps.now a.qs.now in
-    let z = weights c.run-back.new.es c.run-back.new.ps c.run-back.new.qs in
-    let shape = c.turn-turned.ensures.0 ∙ c.run-forward.ensures.shape in
-    let carried = subst (λ (y : TableShape). (ks : List ℕ) × RunBack s.ops y.rows y.cols y.lanes (lane_of s.means s.ops y) xs ks w z) shape c.run-back.ensures in
+    let z = weights c.run_back.new.es c.run_back.new.ps c.run_back.new.qs in
+    let shape = c.turn-turned.ensures.0 ∙ c.run_forward.ensures.shape in
+    let carried = subst (λ (y : TableShape). (ks : List ℕ) × RunBack s.ops y.rows y.cols y.lanes (lane_of s.means s.ops y) xs ks w z) shape c.run_back.ensures in
     record {
-      forward = c.run-forward.ensures.run;
-      back = back_alike s.ops t.rows t.cols t.lanes (lane_of s.means s.ops t) xs _ carried.0 _ _ w z c.run-forward.ensures.run carried.1;
+      forward = c.run_forward.ensures.run;
+      back = back_alike s.ops t.rows t.cols t.lanes (lane_of s.means s.ops t) xs _ carried.0 _ _ w z c.run_forward.ensures.run carried.1;
     }

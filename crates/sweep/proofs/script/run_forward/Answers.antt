@@ -20,7 +20,7 @@ loop-i-preserved g c =
     let next = told.next (next_clear l.sweep (length a.script.now) _ _ _ _ room (omega arith)) in (
       next.0 ∙ ap (λ z. z + 1) l.invariant.0,
       told.shape ∙ l.invariant.1,
-      rw c.answer-number.ensures (forward_next s.means s.ops a.sweep.now.shape a.script.now a.numbers.now a.indices.now
+      rw c.answer_number.ensures (forward_next s.means s.ops a.sweep.now.shape a.script.now a.numbers.now a.indices.now
           l.i (answered c.step-answer.result) l.answers l.sweep.shape l.sweep.taken
           (memory a.ds.now a.us.now a.vs.now) (memory l.ds l.us l.vs) _
           l.invariant.1 l.invariant.0 (omega arith) (omega (arith, l.auto.answers)) l.invariant.2 next.1),

@@ -5,11 +5,11 @@ use Rattle.forward.proofs.Taken.{first_before, number_some}
 use Rattle.sweep.specs.Tests.{no_latest}
 use Rattle.sweep.proofs.sweep.check_latest.Goals as goal
 
-pub returns-in-err-check-weights : goal.returns-in-err-check-weights
-returns-in-err-check-weights c =
+pub returns-in_err-check_weights : goal.returns-in_err-check_weights
+returns-in_err-check_weights c =
     let a = c.args in
-    let f = c.in-err-check-weights.field-0.0 in
-    let e = c.in-err-check-weights.ensures.verdict in
+    let f = c.in_err-check_weights.field-0.0 in
+    let e = c.in_err-check_weights.ensures.verdict in
     let p = err_from_is_err_and c.from-residual.result c.from-residual.ensures.1 in
     rw (p.1, p.2) (record {
       verdict = e ∙ sym (first_before (weights_tests a.turned.now.shape a.e-len a.p-len a.q-len a.w-len a.work-len) (no_latest a.turned.now a.count) (λ z. number_some f (e ∙ z)));

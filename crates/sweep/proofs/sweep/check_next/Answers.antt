@@ -5,11 +5,11 @@ use Rattle.forward.proofs.Taken.{first_before, number_some}
 use Rattle.sweep.specs.Tests.{no_next}
 use Rattle.sweep.proofs.sweep.check_next.Goals as goal
 
-pub returns-in-err-check-memory : goal.returns-in-err-check-memory
-returns-in-err-check-memory c =
+pub returns-in_err-check_memory : goal.returns-in_err-check_memory
+returns-in_err-check_memory c =
     let a = c.args in
-    let f = c.in-err-check-memory.field-0.0 in
-    let e = c.in-err-check-memory.ensures.verdict in
+    let f = c.in_err-check_memory.field-0.0 in
+    let e = c.in_err-check_memory.ensures.verdict in
     let p = err_from_is_err_and c.from-residual.result c.from-residual.ensures.1 in
     rw (p.1, p.2) (record {
       verdict = e ∙ sym (first_before (memory_tests a.sweep.now.shape a.d-len a.u-len a.v-len a.work-len) (no_next a.sweep.now a.count) (λ z. number_some f (e ∙ z)));

@@ -24,8 +24,8 @@ loop-i-preserved g c =
     let h = c.loop-i-test.true in
     let in-t : Fits t (length cur) = rw (c.loop-i.auto.ts, c.fill.auto.ys) c.requires.target in
     let passes = copy_passes v (length vs) (column_of t i) (length cur) i c.requires.source (record { fits = in-t; within = h }) (omega (arith, c.requires.cols)) (omega (arith, c.requires.rows, c.requires.cols)) c.requires.lanes in
-    placed_more s.means s.ops v vs t (length vs) (length c.args.ts.now) i cur c.copy-from-indices.new.ys c.requires c.loop-i.invariant
-    (c.copy-from-indices.ensures.accepted (c.copy-from-indices.ensures.verdict ∙ passes))
+    placed_more s.means s.ops v vs t (length vs) (length c.args.ts.now) i cur c.copy_from_indices.new.ys c.requires c.loop-i.invariant
+    (c.copy_from_indices.ensures.accepted (c.copy_from_indices.ensures.verdict ∙ passes))
 
 pub returns : goal.returns
 returns g c =

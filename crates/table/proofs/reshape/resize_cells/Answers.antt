@@ -27,8 +27,8 @@ loop-j-preserved g c =
     ] in
     let in-y : Fits y (length cur) = rw (c.loop-j.auto.ys, c.fill.auto.ys) c.requires.target in
     let passes = pair_passes (column_of x j) (length xs) (column_of y j) (length cur) (record { fits = c.requires.source; within = both.0 }) (record { fits = in-y; within = both.1 }) c.requires.rows c.requires.lanes in
-    brought_more s.means s.ops x xs y (length xs) (length c.args.ys.now) j cur c.copy-from.new.ys c.requires both.0 c.loop-j.invariant
-    (c.copy-from.ensures.accepted (c.copy-from.ensures.verdict ∙ passes))
+    brought_more s.means s.ops x xs y (length xs) (length c.args.ys.now) j cur c.copy_from.new.ys c.requires both.0 c.loop-j.invariant
+    (c.copy_from.ensures.accepted (c.copy_from.ensures.verdict ∙ passes))
 
 pub returns : goal.returns
 returns g c =

@@ -25,15 +25,15 @@ offset-bounds-fs-start g c =
 pub bounds-fs-start : goal.bounds-fs-start
 bounds-fs-start g c = factor_within c.args.factors (length c.args.fs.now) c.loop-lane.lane c.start.result c.requires.factors c.requires.one (omega (arith, c.requires.each)) c.start.ensures
 
-pub axpy-part-requires : goal.axpy-part-requires
-axpy-part-requires g c =
+pub axpy_part-requires : goal.axpy_part-requires
+axpy_part-requires g c =
     let y = c.args.y in
     let yl = length c.args.ys.now in
     let lane = c.loop-lane.lane in
     let l = c.loop-lane-test.true in
     let to = c.start-in-loop-lane.ensures yl c.requires.target l in
     let t = band_fits y.of yl lane y.col 1 c.requires.target.fits l (omega (arith, c.requires.target.within)) in
-    let s = reads_within c.args.x (length c.args.xs.now) y.of.lanes lane c.lane-for.result c.start-from.result c.requires.source l c.requires.target.fits.few_lanes c.lane-for.ensures c.start-from.ensures in
+    let s = reads_within c.args.x (length c.args.xs.now) y.of.lanes lane c.lane_for.result c.start-from.result c.requires.source l c.requires.target.fits.few_lanes c.lane_for.ensures c.start-from.ensures in
     record { source = omega (arith, c.requires.rows); target = omega arith; few = c.requires.target.fits.few_rows }
 
 pub loop-lane-preserved : goal.loop-lane-preserved
@@ -51,9 +51,9 @@ loop-lane-preserved g c =
     let beta = s.means c.args.b.0 in
     let within : c.start.result < length fs = factor_within f (length fs) lane c.start.result c.requires.factors c.requires.one (omega (arith, c.requires.each)) c.start.ensures in
     let at-factor = c.start.ensures (length fs) c.requires.factors (omega (arith, c.requires.each)) in
-    let from = reads_from x (length xs) y.of.lanes lane c.lane-for.result c.start-from.result c.requires.source l c.requires.target.fits.few_lanes c.lane-for.ensures c.start-from.ensures in
+    let from = reads_from x (length xs) y.of.lanes lane c.lane_for.result c.start-from.result c.requires.source l c.requires.target.fits.few_lanes c.lane_for.ensures c.start-from.ensures in
     let to = c.start-in-loop-lane.ensures (length old) c.requires.target l in
-    column_more y.of lane y.col c.start-in-loop-lane.result _ _ old cur c.axpy-part.new.ys to c.requires.target.within
+    column_more y.of lane y.col c.start-in-loop-lane.result _ _ old cur c.axpy_part.new.ys to c.requires.target.within
     (λ i v w q d.
     let place : c.start.result ≡ cell f.of lane f.col 0 = at-factor ∙ omega arith in
     let factor = get_or_read fs c.start.result c.index-fs-start.result within c.index-fs-start.is d ∙ ap (λ z. get_or fs z d) place in
@@ -64,7 +64,7 @@ loop-lane-preserved g c =
     ∙ ap (λ z. blend s.ops (s.means (get_or fs (cell f.of lane f.col 0) d)) (s.means z) beta (s.means (get_or cur (c.start-in-loop-lane.result + i) d))) source
     ∙ ap (λ z. blend s.ops (s.means (get_or fs (cell f.of lane f.col 0) d)) (s.means (get_or xs (cell x.of (lane_for lane x.of.lanes y.of.lanes) x.col i) d)) beta (s.means z)) target)
     c.loop-lane.invariant
-    c.axpy-part.ensures
+    c.axpy_part.ensures
 
 pub returns : goal.returns
 returns g c = column_all _ _ _ _ _ _ c.loop-lane-test.false c.loop-lane.invariant
