@@ -15,7 +15,7 @@ pub(crate) fn add_column_back<S: Scalar>(t: TableShape, es: &mut [S], ps: &[S], 
     requires table { Fits t (length es.old) }
     requires first { Lawful (vector_of t) (length ps.now) }
     requires within { j < t.cols }
-    ensures { (qs : List S) → BackBy means ops t (AddCol j) [] [] (weights es.old ps.now qs) (weights es.new ps.now qs) }
+    ensures { (qs : List S) → BackBy S.means S.ops t (AddCol j) [] [] (weights es.old ps.now qs) (weights es.new ps.now qs) }
 {
     let v = Column::vector(t.rows, t.lanes);
     let _ = add_assign(v, ps, t.column(j), es);
@@ -26,7 +26,7 @@ pub(crate) fn set_column_back<S: Scalar>(t: TableShape, es: &mut [S], ps: &mut [
     requires table { Fits t (length es.old) }
     requires first { Lawful (vector_of t) (length ps.old) }
     requires within { j < t.cols }
-    ensures { (qs : List S) → BackBy means ops t (SetCol j) [] [] (weights es.old ps.old qs) (weights es.new ps.new qs) }
+    ensures { (qs : List S) → BackBy S.means S.ops t (SetCol j) [] [] (weights es.old ps.old qs) (weights es.new ps.new qs) }
 {
     let v = Column::vector(t.rows, t.lanes);
     let column = t.column(j);

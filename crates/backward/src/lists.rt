@@ -18,7 +18,7 @@ pub(crate) fn gather_back<S: Scalar>(t: TableShape, ps: &mut [S], qs: &mut [S], 
     requires second { Lawful (vector_of t) (length qs.old) }
     requires long { length list.now ≡ t.rows }
     requires inside { outside t.rows list.now ≡ false }
-    ensures { (es : List S) → BackBy means ops t Gather [] list.now (weights es ps.old qs.old) (weights es ps.new qs.new) }
+    ensures { (es : List S) → BackBy S.means S.ops t Gather [] list.now (weights es ps.old qs.old) (weights es ps.new qs.new) }
 {
     let v = Column::vector(t.rows, t.lanes);
     let _ = gather_transpose(list, v, ps, v, qs);
@@ -31,7 +31,7 @@ pub(crate) fn scatter_back<S: Scalar>(t: TableShape, ps: &mut [S], qs: &mut [S],
     requires second { Lawful (vector_of t) (length qs.old) }
     requires long { length list.now ≡ t.rows }
     requires inside { outside t.rows list.now ≡ false }
-    ensures { (es : List S) → BackBy means ops t Scatter [] list.now (weights es ps.old qs.old) (weights es ps.new qs.new) }
+    ensures { (es : List S) → BackBy S.means S.ops t Scatter [] list.now (weights es ps.old qs.old) (weights es ps.new qs.new) }
 {
     let v = Column::vector(t.rows, t.lanes);
     let _ = scatter_transpose(list, v, ps, v, qs);

@@ -32,7 +32,7 @@ pub fn gain<S: Scalar>(
     ys: &mut [S],
 ) -> Result<(), Refusal>
     ensures verdict { answer result ≡ first_of (pair_tests x (length xs.now) y (length ys.old)) }
-    ensures accepted { answer result ≡ 0 → Entrywise x xs.now y (λ p q v. means v ≡ ops.plus (means q) (ops.times (means a.0) (means p))) ys.old ys.new }
+    ensures accepted { answer result ≡ 0 → Entrywise x xs.now y (λ p q v. S.means v ≡ S.ops.plus (S.means q) (S.ops.times (S.means a.0) (S.means p))) ys.old ys.new }
     ensures refused { (answer result ≢ 0) → ys.new ≡ ys.old }
 {
     zip(Gained { a }, x, xs, y, ys)

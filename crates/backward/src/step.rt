@@ -37,7 +37,7 @@ fn back_kind<S: Scalar>(
     requires room { Roomy t (length es.old) (length ps.old) (length qs.old) (length work.old) }
     requires sum { Fits (vector_of t).of (length ws.old) }
     requires allowed { Allowed t.rows t.cols kind (length numbers.now) list.now }
-    ensures { BackBy means ops t kind (map means numbers.now) list.now (weights es.old ps.old qs.old) (weights es.new ps.new qs.new) }
+    ensures { BackBy S.means S.ops t kind (map S.means numbers.now) list.now (weights es.old ps.old qs.old) (weights es.new ps.new qs.new) }
 {
     match kind {
         Kind::Update { order } => update_back(t, es, ps, order, ws, work),
@@ -67,8 +67,8 @@ fn back_accepted<S: Scalar>(
 )
     requires room { Roomy t (length es.old) (length ps.old) (length qs.old) (length work.old) }
     requires sum { Fits (vector_of t).of (length ws.old) }
-    requires passed { fault t.rows t.cols (step_of means x numbers.now indices.now) ≡ 0 }
-    ensures { StepBack ops t.rows t.cols t.lanes (lane_of means ops t) (step_of means x numbers.now indices.now) 0 (weights es.old ps.old qs.old) (weights es.new ps.new qs.new) }
+    requires passed { fault t.rows t.cols (step_of S.means x numbers.now indices.now) ≡ 0 }
+    ensures { StepBack S.ops t.rows t.cols t.lanes (lane_of S.means S.ops t) (step_of S.means x numbers.now indices.now) 0 (weights es.old ps.old qs.old) (weights es.new ps.new qs.new) }
 {
     let from = x.numbers_at;
     let count = x.number_count;
@@ -95,10 +95,10 @@ fn check_back<S: Scalar>(
     numbers: &[S],
     indices: &[usize],
 ) -> Result<(), Refusal>
-    ensures verdict { answer result ≡ first_of (weights_tests t table first second sum work ++ step_tests t.rows t.cols (step_of means x numbers.now indices.now)) }
+    ensures verdict { answer result ≡ first_of (weights_tests t table first second sum work ++ step_tests t.rows t.cols (step_of S.means x numbers.now indices.now)) }
     ensures lent { answer result ≡ 0 → Lent t table first second sum work }
-    ensures passed { answer result ≡ 0 → fault t.rows t.cols (step_of means x numbers.now indices.now) ≡ 0 }
-    ensures kept { (answer result ≢ 0) → first_of (weights_tests t table first second sum work) ≡ 0 → (w : Memory S) → StepBack ops t.rows t.cols t.lanes (lane_of means ops t) (step_of means x numbers.now indices.now) (answer result) w w }
+    ensures passed { answer result ≡ 0 → fault t.rows t.cols (step_of S.means x numbers.now indices.now) ≡ 0 }
+    ensures kept { (answer result ≢ 0) → first_of (weights_tests t table first second sum work) ≡ 0 → (w : Memory S) → StepBack S.ops t.rows t.cols t.lanes (lane_of S.means S.ops t) (step_of S.means x numbers.now indices.now) (answer result) w w }
 {
     check_weights(t, table, first, second, sum, work)?;
     check_step(t.rows, t.cols, x, numbers, indices)
@@ -123,8 +123,8 @@ pub fn step_back<S: Scalar>(
     indices: &[usize],
     work: &mut [S],
 ) -> Result<(), Refusal>
-    ensures verdict { answer result ≡ first_of (weights_tests t (length es.old) (length ps.old) (length qs.old) (length ws.old) (length work.old) ++ step_tests t.rows t.cols (step_of means x numbers.now indices.now)) }
-    ensures taken { first_of (weights_tests t (length es.old) (length ps.old) (length qs.old) (length ws.old) (length work.old)) ≡ 0 → StepBack ops t.rows t.cols t.lanes (lane_of means ops t) (step_of means x numbers.now indices.now) (answer result) (weights es.old ps.old qs.old) (weights es.new ps.new qs.new) }
+    ensures verdict { answer result ≡ first_of (weights_tests t (length es.old) (length ps.old) (length qs.old) (length ws.old) (length work.old) ++ step_tests t.rows t.cols (step_of S.means x numbers.now indices.now)) }
+    ensures taken { first_of (weights_tests t (length es.old) (length ps.old) (length qs.old) (length ws.old) (length work.old)) ≡ 0 → StepBack S.ops t.rows t.cols t.lanes (lane_of S.means S.ops t) (step_of S.means x numbers.now indices.now) (answer result) (weights es.old ps.old qs.old) (weights es.new ps.new qs.new) }
     ensures refused { (answer result ≢ 0) → (es.new ≡ es.old) × (ps.new ≡ ps.old) × (qs.new ≡ qs.old) × (ws.new ≡ ws.old) × (work.new ≡ work.old) }
 {
     check_back(

@@ -28,7 +28,7 @@ pub(crate) fn sum_columns_back<S: Scalar>(
     requires ordered { start ≤ end }
     requires few { end - start ≤ 8 }
     requires numbers { length numbers.now ≡ 2 + (end - start) }
-    ensures { (qs : List S) → BackBy means ops t (SumCol start end) (map means numbers.now) [] (weights es.old ps.old qs) (weights es.new ps.new qs) }
+    ensures { (qs : List S) → BackBy S.means S.ops t (SumCol start end) (map S.means numbers.now) [] (weights es.old ps.old qs) (weights es.new ps.new qs) }
 {
     let v = Column::vector(t.rows, t.lanes);
     let _ = ger_cols(Scale(numbers[0]), &numbers[2..], v, ps, t, es, start, end);
@@ -48,7 +48,7 @@ pub(crate) fn multiply_back<S: Scalar>(
     requires few { k ≤ 8 }
     requires numbers { length numbers.now ≡ k * k }
     requires room { 8 ≤ length work.old }
-    ensures { (ps qs : List S) → BackBy means ops t (Cols k) (map means numbers.now) [] (weights es.old ps qs) (weights es.new ps qs) }
+    ensures { (ps qs : List S) → BackBy S.means S.ops t (Cols k) (map S.means numbers.now) [] (weights es.old ps qs) (weights es.new ps qs) }
 {
     let _ = mul_cols_by_transpose(t, es, k, numbers, work);
 }
@@ -69,7 +69,7 @@ pub(crate) fn update_back<S: Scalar>(
     requires within { order + 2 < t.cols }
     requires few { order ≤ 5 }
     requires room { 8 ≤ length work.old }
-    ensures { (qs : List S) → BackBy means ops t (Update order) [] [] (weights es.old ps.old qs) (weights es.new ps.new qs) }
+    ensures { (qs : List S) → BackBy S.means S.ops t (Update order) [] [] (weights es.old ps.old qs) (weights es.new ps.new qs) }
 {
     let v = Column::vector(t.rows, t.lanes);
     let _ = update_backward_diff_transpose(t, es, order, v, ws, work);

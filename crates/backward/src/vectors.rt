@@ -15,7 +15,7 @@ use vector::{add_assign, fill, mul_assign};
 pub(crate) fn copy_back<S: Scalar>(t: TableShape, ps: &mut [S], qs: &mut [S])
     requires first { Lawful (vector_of t) (length ps.old) }
     requires second { Lawful (vector_of t) (length qs.old) }
-    ensures { (es : List S) → BackBy means ops t Copied [] [] (weights es ps.old qs.old) (weights es ps.new qs.new) }
+    ensures { (es : List S) → BackBy S.means S.ops t Copied [] [] (weights es ps.old qs.old) (weights es ps.new qs.new) }
 {
     let v = Column::vector(t.rows, t.lanes);
     let _ = add_assign(v, qs, v, ps);
@@ -26,7 +26,7 @@ pub(crate) fn copy_back<S: Scalar>(t: TableShape, ps: &mut [S], qs: &mut [S])
 pub(crate) fn scale_back<S: Scalar>(t: TableShape, ps: &mut [S], numbers: &[S])
     requires first { Lawful (vector_of t) (length ps.old) }
     requires numbers { length numbers.now ≡ 1 }
-    ensures { (es qs : List S) → BackBy means ops t Scaled (map means numbers.now) [] (weights es ps.old qs) (weights es ps.new qs) }
+    ensures { (es qs : List S) → BackBy S.means S.ops t Scaled (map S.means numbers.now) [] (weights es ps.old qs) (weights es ps.new qs) }
 {
     let v = Column::vector(t.rows, t.lanes);
     let _ = mul_assign(Scale(numbers[0]), v, ps);
@@ -37,7 +37,7 @@ pub(crate) fn axpy_back<S: Scalar>(t: TableShape, ps: &mut [S], qs: &mut [S], nu
     requires first { Lawful (vector_of t) (length ps.old) }
     requires second { Lawful (vector_of t) (length qs.old) }
     requires numbers { length numbers.now ≡ 2 }
-    ensures { (es : List S) → BackBy means ops t Axpy (map means numbers.now) [] (weights es ps.old qs.old) (weights es ps.new qs.new) }
+    ensures { (es : List S) → BackBy S.means S.ops t Axpy (map S.means numbers.now) [] (weights es ps.old qs.old) (weights es ps.new qs.new) }
 {
     let v = Column::vector(t.rows, t.lanes);
     let _ = gain(Scale(numbers[0]), v, ps, v, qs);

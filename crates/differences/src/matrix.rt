@@ -109,7 +109,7 @@ fn constant(order: usize, j: usize, l: usize) -> i8
 
 /// One, minus one, or zero.
 fn scalar_of<S: Scalar>(sign: i8) -> S
-    ensures { means result ≡ signed ops sign }
+    ensures { S.means result ≡ signed S.ops sign }
 {
     match sign {
         1 => S::one(),
@@ -122,7 +122,7 @@ fn transposed_entry<S: Scalar>(order: usize, j: usize, l: usize) -> S
     requires order { order ≤ 5 }
     requires row { j < 8 }
     requires col { l < 8 }
-    ensures { means result ≡ transposed ops order j l }
+    ensures { S.means result ≡ transposed S.ops order j l }
 {
     scalar_of(constant(order, j, l))
 }
@@ -132,7 +132,7 @@ impl Matrix {
         requires small { Small self (length numbers.now) }
         requires row { j < self.size }
         requires col { l < self.size }
-        ensures { means result ≡ entry_of ops self (map means numbers.now) j l }
+        ensures { S.means result ≡ entry_of S.ops self (map S.means numbers.now) j l }
     {
         match self.entries {
             Entries::ByRows => numbers[j * self.size + l],

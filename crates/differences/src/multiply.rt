@@ -66,7 +66,7 @@ pub(crate) fn multiply_lanes<S: Scalar>(
     work: &mut [S],
 )
     requires { MulColsLawful t (length ts.old) m (length numbers.now) (length work.old) }
-    ensures { Multiplied means ops t m.size (entry_of ops m (map means numbers.now)) ts.old ts.new }
+    ensures { Multiplied S.means S.ops t m.size (entry_of S.ops m (map S.means numbers.now)) ts.old ts.new }
 {
     for lane in 0..t.lanes {
         multiply_lane(t, ts, lane, m, numbers, work);
@@ -82,7 +82,7 @@ pub fn mul_cols_by<S: Scalar>(
     work: &mut [S],
 ) -> Result<(), Refusal>
     ensures verdict { answer result ≡ first_of (mul_cols_tests t (length ts.old) k (length numbers.now) (length work.old)) }
-    ensures accepted { answer result ≡ 0 → Multiplied means ops t k (number ops k (map means numbers.now)) ts.old ts.new }
+    ensures accepted { answer result ≡ 0 → Multiplied S.means S.ops t k (number S.ops k (map S.means numbers.now)) ts.old ts.new }
     ensures refused { (answer result ≢ 0) → (ts.new ≡ ts.old) × (work.new ≡ work.old) }
 {
     check_mul_cols(t, ts.len(), k, numbers.len(), work.len())?;
@@ -104,7 +104,7 @@ pub fn mul_cols_by_transpose<S: Scalar>(
     work: &mut [S],
 ) -> Result<(), Refusal>
     ensures verdict { answer result ≡ first_of (mul_cols_tests t (length ts.old) k (length numbers.now) (length work.old)) }
-    ensures accepted { answer result ≡ 0 → Multiplied means ops t k (λ j l. number ops k (map means numbers.now) l j) ts.old ts.new }
+    ensures accepted { answer result ≡ 0 → Multiplied S.means S.ops t k (λ j l. number S.ops k (map S.means numbers.now) l j) ts.old ts.new }
     ensures refused { (answer result ≢ 0) → (ts.new ≡ ts.old) × (work.new ≡ work.old) }
 {
     check_mul_cols(t, ts.len(), k, numbers.len(), work.len())?;

@@ -60,7 +60,7 @@ fn dot<S: Scalar>(staged: &[S], height: usize, r: usize, m: Matrix, numbers: &[S
     requires j { j < m.size }
     requires r { r < height }
     requires room { m.size * height ≤ length staged.now }
-    ensures { means result ≡ staged_product means ops staged.now height m numbers.now j r }
+    ensures { S.means result ≡ staged_product S.means S.ops staged.now height m numbers.now j r }
 {
     let mut sum = S::zero();
     for l in 0..m.size {
@@ -74,7 +74,7 @@ fn write_run<S: Scalar>(staged: &[S], m: Matrix, numbers: &[S], j: usize, y: &mu
     requires small { Small m (length numbers.now) }
     requires j { j < m.size }
     requires room { m.size * length y.old ≤ length staged.now }
-    ensures { (i : ℕ) (d : S) → i < length y.old → means (slice_index_or y.new i d) ≡ staged_product means ops staged.now (length y.old) m numbers.now j i }
+    ensures { (i : ℕ) (d : S) → i < length y.old → S.means (slice_index_or y.new i d) ≡ staged_product S.means S.ops staged.now (length y.old) m numbers.now j i }
 {
     for i in 0..y.len() {
         y[i] = dot(staged, y.len(), i, m, numbers, j);
@@ -94,7 +94,7 @@ fn write_part<S: Scalar>(
     requires j { j < m.size }
     requires room { m.size * height ≤ length staged.now }
     requires target { to + height ≤ length ts.old }
-    ensures { RunChanged to height (λ i v. means v ≡ staged_product means ops staged.now height m numbers.now j i) ts.old ts.new }
+    ensures { RunChanged to height (λ i v. S.means v ≡ staged_product S.means S.ops staged.now height m numbers.now j i) ts.old ts.new }
 {
     write_run(staged, m, numbers, j, &mut ts[to..to + height]);
 }
@@ -113,7 +113,7 @@ fn write_tile<S: Scalar>(
     requires within { m.size ≤ t.cols }
     requires small { Small m (length numbers.now) }
     requires room { m.size * tile.height ≤ length staged.now }
-    ensures { Changed t (InTile tile m.size) (λ b j i v. means v ≡ staged_product means ops staged.now tile.height m numbers.now j (i - tile.row)) ts.old ts.new }
+    ensures { Changed t (InTile tile m.size) (λ b j i v. S.means v ≡ staged_product S.means S.ops staged.now tile.height m numbers.now j (i - tile.row)) ts.old ts.new }
 {
     for j in 0..m.size {
         write_part(staged, m, numbers, j, ts, tile.start(t, j), tile.height);
@@ -131,7 +131,7 @@ fn multiply_tile<S: Scalar>(
     requires law { MulColsLawful t (length ts.old) m (length numbers.now) (length work.old) }
     requires tile { Within t tile }
     requires room { m.size * tile.height ≤ length work.old }
-    ensures { Changed t (InTile tile m.size) (meant means (cell_multiplied means ops t m numbers.now ts.old)) ts.old ts.new }
+    ensures { Changed t (InTile tile m.size) (meant S.means (cell_multiplied S.means S.ops t m numbers.now ts.old)) ts.old ts.new }
 {
     stage(t, ts, tile, m.size, work);
     write_tile(t, ts, tile, m, numbers, work);
@@ -161,7 +161,7 @@ pub(crate) fn multiply_lane<S: Scalar>(
 )
     requires law { MulColsLawful t (length ts.old) m (length numbers.now) (length work.old) }
     requires lane { lane < t.lanes }
-    ensures { Changed t (LaneBand lane 0 m.size) (meant means (cell_multiplied means ops t m numbers.now ts.old)) ts.old ts.new }
+    ensures { Changed t (LaneBand lane 0 m.size) (meant S.means (cell_multiplied S.means S.ops t m numbers.now ts.old)) ts.old ts.new }
 {
     let tall = tallest(work.len(), m.size);
     let mut row = 0;

@@ -8,7 +8,7 @@ use scalar::{Scalar, Scale};
 use shape::{Column, TableShape};
 
 fn fill_ones<S: Scalar>(work: &mut [S])
-    ensures { (i : ℕ) (d : S) → i < length work.old → means (slice_index_or work.new i d) ≡ ops.one }
+    ensures { (i : ℕ) (d : S) → i < length work.old → S.means (slice_index_or work.new i d) ≡ S.ops.one }
 {
     for i in 0..work.len() {
         work[i] = S::one();
@@ -26,7 +26,7 @@ pub(crate) fn sum_columns<S: Scalar>(
     work: &mut [S],
 )
     requires { TransposeLawful t (length ts.now) order d (length ds.old) (length work.old) }
-    ensures { Totalled means ops t ts.now (order + 3) d ds.old ds.new }
+    ensures { Totalled S.means S.ops t ts.now (order + 3) d ds.old ds.new }
 {
     fill_ones(work);
     let one = Scale(S::one());

@@ -72,8 +72,8 @@ fn transpose_lanes<S: Scalar>(
     work: &mut [S],
 )
     requires { TransposeLawful t (length ts.old) order d (length ds.old) (length work.old) }
-    ensures columns { Transposed means ops t order d ts.old ts.new ds.old ds.new }
-    ensures sums { exact → Cumulative means ops t order d ts.old ts.new ds.new }
+    ensures columns { Transposed S.means S.ops t order d ts.old ts.new ds.old ds.new }
+    ensures sums { S.exact → Cumulative S.means S.ops t order d ts.old ts.new ds.new }
 {
     sum_columns(t, ts, order, d, ds, work);
     let none: [S; 0] = [];
@@ -97,8 +97,8 @@ pub fn update_backward_diff_transpose<S: Scalar>(
     work: &mut [S],
 ) -> Result<(), Refusal>
     ensures verdict { answer result ≡ first_of (transpose_tests t (length ts.old) order d (length ds.old) (length work.old)) }
-    ensures accepted { answer result ≡ 0 → Transposed means ops t order d ts.old ts.new ds.old ds.new }
-    ensures exact { exact → answer result ≡ 0 → Cumulative means ops t order d ts.old ts.new ds.new }
+    ensures accepted { answer result ≡ 0 → Transposed S.means S.ops t order d ts.old ts.new ds.old ds.new }
+    ensures exact { S.exact → answer result ≡ 0 → Cumulative S.means S.ops t order d ts.old ts.new ds.new }
     ensures refused { (answer result ≢ 0) → (ts.new ≡ ts.old) × (ds.new ≡ ds.old) × (work.new ≡ work.old) }
 {
     check_transpose(t, ts.len(), order, d, ds.len(), work.len())?;

@@ -65,7 +65,7 @@ fn check_update(
 
 /// d − x: the negation is added.
 fn less<S: Scalar>(d: S, x: S) -> S
-    ensures { means result ≡ ops.plus (means d) (ops.minus (means x)) }
+    ensures { S.means result ≡ S.ops.plus (S.means d) (S.ops.minus (S.means x)) }
 {
     d.add(x.neg())
 }
@@ -74,7 +74,7 @@ fn less<S: Scalar>(d: S, x: S) -> S
 fn gain_run<S: Scalar>(ts: &mut [S], to: usize, from: usize, rows: usize)
     requires apart { to + rows ≤ from }
     requires fits { from + rows ≤ length ts.old }
-    ensures { RunChanged to rows (λ i v. means v ≡ ops.plus (at means ops ts.old (to + i)) (at means ops ts.old (from + i))) ts.old ts.new }
+    ensures { RunChanged to rows (λ i v. S.means v ≡ S.ops.plus (at S.means S.ops ts.old (to + i)) (at S.means S.ops ts.old (from + i))) ts.old ts.new }
 {
     for i in 0..rows {
         ts[to + i] = ts[to + i].add(ts[from + i]);
@@ -93,7 +93,7 @@ fn difference_run<S: Scalar>(
     requires apart { before + rows ≤ to }
     requires fits { to + rows ≤ length ts.old }
     requires source { from + rows ≤ length d.now }
-    ensures { RunChanged to rows (λ i v. means v ≡ ops.plus (at means ops d.now (from + i)) (ops.minus (at means ops ts.old (before + i)))) ts.old ts.new }
+    ensures { RunChanged to rows (λ i v. S.means v ≡ S.ops.plus (at S.means S.ops d.now (from + i)) (S.ops.minus (at S.means S.ops ts.old (before + i)))) ts.old ts.new }
 {
     for i in 0..rows {
         ts[to + i] = less(d[from + i], ts[before + i]);
@@ -106,7 +106,7 @@ fn gain_column<S: Scalar>(t: TableShape, ts: &mut [S], lane: usize, j: usize)
     requires fits { Fits t (length ts.old) }
     requires lane { lane < t.lanes }
     requires within { j + 1 < t.cols }
-    ensures { (n m : ℕ) (old : List S) → Accumulated means ops t lane n m old ts.old → m ≡ j + 1 → j < n → length ts.old ≡ length old → Accumulated means ops t lane n j old ts.new }
+    ensures { (n m : ℕ) (old : List S) → Accumulated S.means S.ops t lane n m old ts.old → m ≡ j + 1 → j < n → length ts.old ≡ length old → Accumulated S.means S.ops t lane n j old ts.new }
 {
     let left = Column { of: t, col: j };
     let right = Column { of: t, col: j + 1 };
@@ -118,7 +118,7 @@ fn accumulate_lane<S: Scalar>(t: TableShape, ts: &mut [S], lane: usize, n: usize
     requires fits { Fits t (length ts.old) }
     requires lane { lane < t.lanes }
     requires within { n < t.cols }
-    ensures { Accumulated means ops t lane n 0 ts.old ts.new }
+    ensures { Accumulated S.means S.ops t lane n 0 ts.old ts.new }
 {
     for j in (0..n).rev() {
         gain_column(t, ts, lane, j);
@@ -138,7 +138,7 @@ fn update_lane<S: Scalar>(
     requires lane { lane < t.lanes }
     requires within { order + 2 < t.cols }
     requires source { from + t.rows ≤ length ds.now }
-    ensures { Changed t (LaneBand lane 0 (order + 3)) (meant means (cell_updated_by means ops t order ds.now from ts.old)) ts.old ts.new }
+    ensures { Changed t (LaneBand lane 0 (order + 3)) (meant S.means (cell_updated_by S.means S.ops t order ds.now from ts.old)) ts.old ts.new }
 {
     let last = Column {
         of: t,
@@ -154,7 +154,7 @@ fn update_lane<S: Scalar>(
 
 fn update_lanes<S: Scalar>(t: TableShape, ts: &mut [S], order: usize, d: Column, ds: &[S])
     requires { UpdateLawful t (length ts.old) order d (length ds.now) }
-    ensures { Updated means ops t order d ds.now ts.old ts.new }
+    ensures { Updated S.means S.ops t order d ds.now ts.old ts.new }
 {
     for lane in 0..t.lanes {
         let from = d.start(lane_for(lane, d.of.lanes, t.lanes));
@@ -172,7 +172,7 @@ pub fn update_backward_diff<S: Scalar>(
     ds: &[S],
 ) -> Result<(), Refusal>
     ensures verdict { answer result ≡ first_of (update_tests t (length ts.old) order d (length ds.now)) }
-    ensures accepted { answer result ≡ 0 → Updated means ops t order d ds.now ts.old ts.new }
+    ensures accepted { answer result ≡ 0 → Updated S.means S.ops t order d ds.now ts.old ts.new }
     ensures refused { (answer result ≢ 0) → ts.new ≡ ts.old }
 {
     check_update(t, ts.len(), order, d, ds.len())?;

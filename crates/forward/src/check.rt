@@ -79,7 +79,7 @@ pub fn check_step<S: Scalar>(
     numbers: &[S],
     indices: &[usize],
 ) -> Result<(), Refusal>
-    ensures { answer result ≡ fault rows cols (step_of means x numbers.now indices.now) }
+    ensures { answer result ≡ fault rows cols (step_of S.means x numbers.now indices.now) }
 {
     test_record(rows, cols, x, numbers.len(), indices)
 }

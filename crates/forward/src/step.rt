@@ -30,7 +30,7 @@ fn take_kind<S: Scalar>(
 )
     requires room { Roomy t (length ds.old) (length us.old) (length vs.old) (length work.old) }
     requires allowed { Allowed t.rows t.cols kind (length numbers.now) list.now }
-    ensures { Forward means ops t kind (map means numbers.now) list.now (memory ds.old us.old vs.old) (memory ds.new us.new vs.new) }
+    ensures { Forward S.means S.ops t kind (map S.means numbers.now) list.now (memory ds.old us.old vs.old) (memory ds.new us.new vs.new) }
 {
     match kind {
         Kind::Update { order } => update_step(t, ds, order, us),
@@ -58,8 +58,8 @@ fn take_step<S: Scalar>(
     work: &mut [S],
 )
     requires room { Roomy t (length ds.old) (length us.old) (length vs.old) (length work.old) }
-    requires passed { fault t.rows t.cols (step_of means x numbers.now indices.now) ≡ 0 }
-    ensures { StepForward ops t.rows t.cols t.lanes (lane_of means ops t) (step_of means x numbers.now indices.now) 0 (memory ds.old us.old vs.old) (memory ds.new us.new vs.new) }
+    requires passed { fault t.rows t.cols (step_of S.means x numbers.now indices.now) ≡ 0 }
+    ensures { StepForward S.ops t.rows t.cols t.lanes (lane_of S.means S.ops t) (step_of S.means x numbers.now indices.now) 0 (memory ds.old us.old vs.old) (memory ds.new us.new vs.new) }
 {
     let from = x.numbers_at;
     let count = x.number_count;
@@ -85,10 +85,10 @@ fn check_forward<S: Scalar>(
     numbers: &[S],
     indices: &[usize],
 ) -> Result<(), Refusal>
-    ensures verdict { answer result ≡ first_of (memory_tests t table first second work ++ step_tests t.rows t.cols (step_of means x numbers.now indices.now)) }
+    ensures verdict { answer result ≡ first_of (memory_tests t table first second work ++ step_tests t.rows t.cols (step_of S.means x numbers.now indices.now)) }
     ensures room { answer result ≡ 0 → Roomy t table first second work }
-    ensures passed { answer result ≡ 0 → fault t.rows t.cols (step_of means x numbers.now indices.now) ≡ 0 }
-    ensures kept { (answer result ≢ 0) → first_of (memory_tests t table first second work) ≡ 0 → (s : Memory S) → StepForward ops t.rows t.cols t.lanes (lane_of means ops t) (step_of means x numbers.now indices.now) (answer result) s s }
+    ensures passed { answer result ≡ 0 → fault t.rows t.cols (step_of S.means x numbers.now indices.now) ≡ 0 }
+    ensures kept { (answer result ≢ 0) → first_of (memory_tests t table first second work) ≡ 0 → (s : Memory S) → StepForward S.ops t.rows t.cols t.lanes (lane_of S.means S.ops t) (step_of S.means x numbers.now indices.now) (answer result) s s }
 {
     check_memory(t, table, first, second, work)?;
     check_step(t.rows, t.cols, x, numbers, indices)
@@ -110,8 +110,8 @@ pub fn step_forward<S: Scalar>(
     indices: &[usize],
     work: &mut [S],
 ) -> Result<(), Refusal>
-    ensures verdict { answer result ≡ first_of (memory_tests t (length ds.old) (length us.old) (length vs.old) (length work.old) ++ step_tests t.rows t.cols (step_of means x numbers.now indices.now)) }
-    ensures taken { first_of (memory_tests t (length ds.old) (length us.old) (length vs.old) (length work.old)) ≡ 0 → StepForward ops t.rows t.cols t.lanes (lane_of means ops t) (step_of means x numbers.now indices.now) (answer result) (memory ds.old us.old vs.old) (memory ds.new us.new vs.new) }
+    ensures verdict { answer result ≡ first_of (memory_tests t (length ds.old) (length us.old) (length vs.old) (length work.old) ++ step_tests t.rows t.cols (step_of S.means x numbers.now indices.now)) }
+    ensures taken { first_of (memory_tests t (length ds.old) (length us.old) (length vs.old) (length work.old)) ≡ 0 → StepForward S.ops t.rows t.cols t.lanes (lane_of S.means S.ops t) (step_of S.means x numbers.now indices.now) (answer result) (memory ds.old us.old vs.old) (memory ds.new us.new vs.new) }
     ensures refused { (answer result ≢ 0) → (ds.new ≡ ds.old) × (us.new ≡ us.old) × (vs.new ≡ vs.old) × (work.new ≡ work.old) }
 {
     check_forward(

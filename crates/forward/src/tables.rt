@@ -16,7 +16,7 @@ pub(crate) fn set_col_step<S: Scalar>(t: TableShape, ds: &mut [S], column: usize
     requires table { Fits t (length ds.old) }
     requires first { Fits (vector_of t).of (length us.now) }
     requires within { column < t.cols }
-    ensures { (vs : List S) → Forward means ops t (SetCol column) [] [] (memory ds.old us.now vs) (memory ds.new us.now vs) }
+    ensures { (vs : List S) → Forward S.means S.ops t (SetCol column) [] [] (memory ds.old us.now vs) (memory ds.new us.now vs) }
 {
     let rows = Column::vector(t.rows, t.lanes);
     let _ = copy_from(rows, us, t.column(column), ds);
@@ -35,7 +35,7 @@ pub(crate) fn cols_step<S: Scalar>(
     requires few { count ≤ 8 }
     requires numbers { length numbers.now ≡ count * count }
     requires room { 8 ≤ length work.old }
-    ensures { (us vs : List S) → Forward means ops t (Cols count) (map means numbers.now) [] (memory ds.old us vs) (memory ds.new us vs) }
+    ensures { (us vs : List S) → Forward S.means S.ops t (Cols count) (map S.means numbers.now) [] (memory ds.old us vs) (memory ds.new us vs) }
 {
     let _ = mul_cols_by(t, ds, count, numbers, work);
 }
@@ -45,7 +45,7 @@ pub(crate) fn update_step<S: Scalar>(t: TableShape, ds: &mut [S], order: usize, 
     requires table { Fits t (length ds.old) }
     requires first { Fits (vector_of t).of (length us.now) }
     requires within { order + 2 < t.cols }
-    ensures { (vs : List S) → Forward means ops t (Update order) [] [] (memory ds.old us.now vs) (memory ds.new us.now vs) }
+    ensures { (vs : List S) → Forward S.means S.ops t (Update order) [] [] (memory ds.old us.now vs) (memory ds.new us.now vs) }
 {
     let rows = Column::vector(t.rows, t.lanes);
     let _ = update_backward_diff(t, ds, order, rows, us);

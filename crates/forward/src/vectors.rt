@@ -17,7 +17,7 @@ use vector::{add_assign, axpy, copy_from, mul_assign};
 pub(crate) fn copy_step<S: Scalar>(t: TableShape, us: &[S], vs: &mut [S])
     requires first { Fits (vector_of t).of (length us.now) }
     requires second { Fits (vector_of t).of (length vs.old) }
-    ensures { (ds : List S) → Forward means ops t Same [] [] (memory ds us.now vs.old) (memory ds us.now vs.new) }
+    ensures { (ds : List S) → Forward S.means S.ops t Same [] [] (memory ds us.now vs.old) (memory ds us.now vs.new) }
 {
     let rows = Column::vector(t.rows, t.lanes);
     let _ = copy_from(rows, us, rows, vs);
@@ -28,7 +28,7 @@ pub(crate) fn add_col_step<S: Scalar>(t: TableShape, ds: &[S], column: usize, us
     requires table { Fits t (length ds.now) }
     requires first { Fits (vector_of t).of (length us.old) }
     requires within { column < t.cols }
-    ensures { (vs : List S) → Forward means ops t (AddCol column) [] [] (memory ds.now us.old vs) (memory ds.now us.new vs) }
+    ensures { (vs : List S) → Forward S.means S.ops t (AddCol column) [] [] (memory ds.now us.old vs) (memory ds.now us.new vs) }
 {
     let rows = Column::vector(t.rows, t.lanes);
     let _ = add_assign(t.column(column), ds, rows, us);
@@ -39,7 +39,7 @@ pub(crate) fn axpy_step<S: Scalar>(t: TableShape, us: &mut [S], vs: &[S], number
     requires first { Fits (vector_of t).of (length us.old) }
     requires second { Fits (vector_of t).of (length vs.now) }
     requires numbers { length numbers.now ≡ 2 }
-    ensures { (ds : List S) → Forward means ops t Axpy (map means numbers.now) [] (memory ds us.old vs.now) (memory ds us.new vs.now) }
+    ensures { (ds : List S) → Forward S.means S.ops t Axpy (map S.means numbers.now) [] (memory ds us.old vs.now) (memory ds us.new vs.now) }
 {
     let rows = Column::vector(t.rows, t.lanes);
     let a = Scale(numbers[0]);
@@ -51,7 +51,7 @@ pub(crate) fn axpy_step<S: Scalar>(t: TableShape, us: &mut [S], vs: &[S], number
 pub(crate) fn scale_step<S: Scalar>(t: TableShape, us: &mut [S], numbers: &[S])
     requires first { Fits (vector_of t).of (length us.old) }
     requires numbers { length numbers.now ≡ 1 }
-    ensures { (ds vs : List S) → Forward means ops t Times (map means numbers.now) [] (memory ds us.old vs) (memory ds us.new vs) }
+    ensures { (ds vs : List S) → Forward S.means S.ops t Times (map S.means numbers.now) [] (memory ds us.old vs) (memory ds us.new vs) }
 {
     let rows = Column::vector(t.rows, t.lanes);
     let _ = mul_assign(Scale(numbers[0]), rows, us);
@@ -63,7 +63,7 @@ pub(crate) fn gather_step<S: Scalar>(t: TableShape, us: &mut [S], vs: &[S], list
     requires second { Fits (vector_of t).of (length vs.now) }
     requires long { length list.now ≡ t.rows }
     requires inside { outside t.rows list.now ≡ false }
-    ensures { (ds : List S) → Forward means ops t Gather [] list.now (memory ds us.old vs.now) (memory ds us.new vs.now) }
+    ensures { (ds : List S) → Forward S.means S.ops t Gather [] list.now (memory ds us.old vs.now) (memory ds us.new vs.now) }
 {
     let rows = Column::vector(t.rows, t.lanes);
     let _ = gather(rows, vs, list, rows, us);
@@ -75,7 +75,7 @@ pub(crate) fn scatter_step<S: Scalar>(t: TableShape, us: &[S], vs: &mut [S], lis
     requires second { Fits (vector_of t).of (length vs.old) }
     requires long { length list.now ≡ t.rows }
     requires inside { outside t.rows list.now ≡ false }
-    ensures { (ds : List S) → Forward means ops t Scatter [] list.now (memory ds us.now vs.old) (memory ds us.now vs.new) }
+    ensures { (ds : List S) → Forward S.means S.ops t Scatter [] list.now (memory ds us.now vs.old) (memory ds us.now vs.new) }
 {
     let rows = Column::vector(t.rows, t.lanes);
     let _ = scatter(rows, us, list, rows, vs);
@@ -96,7 +96,7 @@ pub(crate) fn sum_col_step<S: Scalar>(
     requires within { end ≤ t.cols }
     requires few { end - start ≤ 8 }
     requires numbers { length numbers.now ≡ 2 + (end - start) }
-    ensures { (vs : List S) → Forward means ops t (SumCol start end) (map means numbers.now) [] (memory ds.now us.old vs) (memory ds.now us.new vs) }
+    ensures { (vs : List S) → Forward S.means S.ops t (SumCol start end) (map S.means numbers.now) [] (memory ds.now us.old vs) (memory ds.now us.new vs) }
 {
     let rows = Column::vector(t.rows, t.lanes);
     let a = Scale(numbers[0]);

@@ -1,6 +1,7 @@
 //! Calls on lists of rows: gather, scatter and their kin. Row counts need not agree; every index
 //! is tested before the first write. Module `cells` has those on tables.
 #![tactic(auto)]
+
 mod cell_check;
 pub mod cells;
 mod check;

@@ -50,7 +50,7 @@ fn check_back(
 fn gather_back_run<S: Scalar>(list: &[usize], p: &[S], q: &mut [S])
     requires long { length list.now ≡ length p.now }
     requires inside { Inside (length q.old) list.now }
-    ensures { (k : ℕ) (d : S) → k < length q.old → means (slice_index_or q.new k d) ≡ gathered_back ops list.now 0 (λ i. means (slice_index_or p.now i d)) (λ l. means (slice_index_or q.old l d)) k }
+    ensures { (k : ℕ) (d : S) → k < length q.old → S.means (slice_index_or q.new k d) ≡ gathered_back S.ops list.now 0 (λ i. S.means (slice_index_or p.now i d)) (λ l. S.means (slice_index_or q.old l d)) k }
 {
     for i in 0..list.len() {
         let k = list[i];
@@ -62,8 +62,8 @@ fn gather_back_run<S: Scalar>(list: &[usize], p: &[S], q: &mut [S])
 fn scatter_back_run<S: Scalar>(list: &[usize], p: &mut [S], q: &mut [S])
     requires long { length list.now ≡ length p.old }
     requires inside { Inside (length q.old) list.now }
-    ensures first { (k : ℕ) (d : S) → k < length p.old → means (slice_index_or p.new k d) ≡ (scattered_back ops list.now 0 (λ i. means (slice_index_or p.old i d)) (λ l. means (slice_index_or q.old l d))).0 k }
-    ensures second { (k : ℕ) (d : S) → k < length q.old → means (slice_index_or q.new k d) ≡ (scattered_back ops list.now 0 (λ i. means (slice_index_or p.old i d)) (λ l. means (slice_index_or q.old l d))).1 k }
+    ensures first { (k : ℕ) (d : S) → k < length p.old → S.means (slice_index_or p.new k d) ≡ (scattered_back S.ops list.now 0 (λ i. S.means (slice_index_or p.old i d)) (λ l. S.means (slice_index_or q.old l d))).0 k }
+    ensures second { (k : ℕ) (d : S) → k < length q.old → S.means (slice_index_or q.new k d) ≡ (scattered_back S.ops list.now 0 (λ i. S.means (slice_index_or p.old i d)) (λ l. S.means (slice_index_or q.old l d))).1 k }
 {
     for i in (0..list.len()).rev() {
         let k = list[i];
@@ -86,14 +86,14 @@ fn gather_back_part<S: Scalar>(
     requires inside { Inside n list.now }
     requires first { from + m ≤ length ps.now }
     requires second { to + n ≤ length qs.old }
-    ensures { RunChanged to n (λ k v. (d : S) → means v ≡ gathered_back ops list.now 0 (λ i. means (slice_index_or ps.now (from + i) d)) (λ l. means (slice_index_or qs.old (to + l) d)) k) qs.old qs.new }
+    ensures { RunChanged to n (λ k v. (d : S) → S.means v ≡ gathered_back S.ops list.now 0 (λ i. S.means (slice_index_or ps.now (from + i) d)) (λ l. S.means (slice_index_or qs.old (to + l) d)) k) qs.old qs.new }
 {
     gather_back_run(list, &ps[from..from + m], &mut qs[to..to + n]);
 }
 
 fn gather_back_lanes<S: Scalar>(list: &[usize], p: Column, ps: &[S], q: Column, qs: &mut [S])
     requires { BackLawful p (length ps.now) list.now q (length qs.old) }
-    ensures { GatheredBack means ops list.now p ps.now q qs.old qs.new }
+    ensures { GatheredBack S.means S.ops list.now p ps.now q qs.old qs.new }
 {
     for lane in 0..q.of.lanes {
         gather_back_part(
@@ -117,7 +117,7 @@ pub fn gather_transpose<S: Scalar>(
     qs: &mut [S],
 ) -> Result<(), Refusal>
     ensures verdict { answer result ≡ first_of (back_tests p (length ps.now) list.now q (length qs.old)) }
-    ensures accepted { answer result ≡ 0 → GatheredBack means ops list.now p ps.now q qs.old qs.new }
+    ensures accepted { answer result ≡ 0 → GatheredBack S.means S.ops list.now p ps.now q qs.old qs.new }
     ensures refused { (answer result ≢ 0) → qs.new ≡ qs.old }
 {
     check_back(p, ps.len(), list, q, qs.len())?;
@@ -138,15 +138,15 @@ fn scatter_back_part<S: Scalar>(
     requires inside { Inside n list.now }
     requires first { from + m ≤ length ps.old }
     requires second { to + n ≤ length qs.old }
-    ensures first { RunChanged from m (λ k v. (d : S) → means v ≡ (scattered_back ops list.now 0 (λ i. means (slice_index_or ps.old (from + i) d)) (λ l. means (slice_index_or qs.old (to + l) d))).0 k) ps.old ps.new }
-    ensures second { RunChanged to n (λ k v. (d : S) → means v ≡ (scattered_back ops list.now 0 (λ i. means (slice_index_or ps.old (from + i) d)) (λ l. means (slice_index_or qs.old (to + l) d))).1 k) qs.old qs.new }
+    ensures first { RunChanged from m (λ k v. (d : S) → S.means v ≡ (scattered_back S.ops list.now 0 (λ i. S.means (slice_index_or ps.old (from + i) d)) (λ l. S.means (slice_index_or qs.old (to + l) d))).0 k) ps.old ps.new }
+    ensures second { RunChanged to n (λ k v. (d : S) → S.means v ≡ (scattered_back S.ops list.now 0 (λ i. S.means (slice_index_or ps.old (from + i) d)) (λ l. S.means (slice_index_or qs.old (to + l) d))).1 k) qs.old qs.new }
 {
     scatter_back_run(list, &mut ps[from..from + m], &mut qs[to..to + n]);
 }
 
 fn scatter_back_lanes<S: Scalar>(list: &[usize], p: Column, ps: &mut [S], q: Column, qs: &mut [S])
     requires { BackLawful p (length ps.old) list.now q (length qs.old) }
-    ensures { ScatteredBack means ops list.now p ps.old ps.new q qs.old qs.new }
+    ensures { ScatteredBack S.means S.ops list.now p ps.old ps.new q qs.old qs.new }
 {
     for lane in 0..q.of.lanes {
         scatter_back_part(
@@ -171,7 +171,7 @@ pub fn scatter_transpose<S: Scalar>(
     qs: &mut [S],
 ) -> Result<(), Refusal>
     ensures verdict { answer result ≡ first_of (back_tests p (length ps.old) list.now q (length qs.old)) }
-    ensures accepted { answer result ≡ 0 → ScatteredBack means ops list.now p ps.old ps.new q qs.old qs.new }
+    ensures accepted { answer result ≡ 0 → ScatteredBack S.means S.ops list.now p ps.old ps.new q qs.old qs.new }
     ensures refused { (answer result ≢ 0) → (ps.new ≡ ps.old) × (qs.new ≡ qs.old) }
 {
     check_back(p, ps.len(), list, q, qs.len())?;

@@ -61,7 +61,7 @@ fn check_pairing(
 /// `sum`, and then the products of two runs, added in their order.
 fn add_products<S: Scalar>(sum: S, xs: &[S], ys: &[S]) -> S
     requires { length ys.now ≡ length xs.now }
-    ensures { means result ≡ sum_from ops (means sum) (λ i. ops.times (at means ops xs.now i) (at means ops ys.now i)) (length xs.now) }
+    ensures { S.means result ≡ sum_from S.ops (S.means sum) (λ i. S.ops.times (at S.means S.ops xs.now i) (at S.means S.ops ys.now i)) (length xs.now) }
 {
     let mut sum = sum;
     for i in 0..xs.len() {
@@ -74,7 +74,7 @@ fn add_products<S: Scalar>(sum: S, xs: &[S], ys: &[S]) -> S
 fn add_part<S: Scalar>(sum: S, xs: &[S], ys: &[S], from: usize, rows: usize) -> S
     requires entries { from + rows ≤ length xs.now }
     requires weights { from + rows ≤ length ys.now }
-    ensures { means result ≡ sum_from ops (means sum) (λ i. ops.times (at means ops xs.now (from + i)) (at means ops ys.now (from + i))) rows }
+    ensures { S.means result ≡ sum_from S.ops (S.means sum) (λ i. S.ops.times (at S.means S.ops xs.now (from + i)) (at S.means S.ops ys.now (from + i))) rows }
 {
     add_products(sum, &xs[from..from + rows], &ys[from..from + rows])
 }
@@ -85,7 +85,7 @@ fn add_column<S: Scalar>(sum: S, v: Column, xs: &[S], ys: &[S], lane: usize) -> 
     requires weights { Fits v.of (length ys.now) }
     requires column { v.col < v.of.cols }
     requires lane { lane < v.of.lanes }
-    ensures { means result ≡ sum_from ops (means sum) (λ i. ops.times (at means ops xs.now (cell v.of lane v.col i)) (at means ops ys.now (cell v.of lane v.col i))) v.of.rows }
+    ensures { S.means result ≡ sum_from S.ops (S.means sum) (λ i. S.ops.times (at S.means S.ops xs.now (cell v.of lane v.col i)) (at S.means S.ops ys.now (cell v.of lane v.col i))) v.of.rows }
 {
     add_part(sum, xs, ys, v.start(lane), v.of.rows)
 }
@@ -95,7 +95,7 @@ fn pair_table<S: Scalar>(t: TableShape, ds: &[S], es: &[S], lane: usize) -> S
     requires entries { Fits t (length ds.now) }
     requires weights { Fits t (length es.now) }
     requires lane { lane < t.lanes }
-    ensures { means result ≡ columns_from ops t.rows ops.zero (λ j i. ops.times (at means ops ds.now (cell t lane j i)) (at means ops es.now (cell t lane j i))) t.cols }
+    ensures { S.means result ≡ columns_from S.ops t.rows S.ops.zero (λ j i. S.ops.times (at S.means S.ops ds.now (cell t lane j i)) (at S.means S.ops es.now (cell t lane j i))) t.cols }
 {
     let mut sum = S::zero();
     for j in 0..t.cols {
@@ -117,7 +117,7 @@ fn pair_lane<S: Scalar>(
 ) -> S
     requires room { Pairable t (length ds.now) (length us.now) (length vs.now) (length es.now) (length ps.now) (length qs.now) t.lanes }
     requires lane { lane < t.lanes }
-    ensures { means result ≡ lane_pairing means ops t (memory ds.now us.now vs.now) (memory es.now ps.now qs.now) lane }
+    ensures { S.means result ≡ lane_pairing S.means S.ops t (memory ds.now us.now vs.now) (memory es.now ps.now qs.now) lane }
 {
     let vector = Column::vector(t.rows, t.lanes);
     let table = pair_table(t, ds, es, lane);
@@ -137,7 +137,7 @@ fn pair_lanes<S: Scalar>(
     sums: &mut [S],
 )
     requires { Pairable t (length ds.now) (length us.now) (length vs.now) (length es.now) (length ps.now) (length qs.now) (length sums.old) }
-    ensures { (b : ℕ) → b < t.lanes → at means ops sums.new b ≡ lane_pairing means ops t (memory ds.now us.now vs.now) (memory es.now ps.now qs.now) b }
+    ensures { (b : ℕ) → b < t.lanes → at S.means S.ops sums.new b ≡ lane_pairing S.means S.ops t (memory ds.now us.now vs.now) (memory es.now ps.now qs.now) b }
 {
     for lane in 0..t.lanes {
         sums[lane] = pair_lane(t, ds, us, vs, es, ps, qs, lane);
@@ -161,7 +161,7 @@ pub fn pairings<S: Scalar>(
     sums: &mut [S],
 ) -> Result<(), Refusal>
     ensures verdict { answer result ≡ first_of (pairing_tests t (length ds.now) (length us.now) (length vs.now) (length es.now) (length ps.now) (length qs.now) (length sums.old)) }
-    ensures accepted { answer result ≡ 0 → (b : ℕ) → b < t.lanes → at means ops sums.new b ≡ lane_pairing means ops t (memory ds.now us.now vs.now) (memory es.now ps.now qs.now) b }
+    ensures accepted { answer result ≡ 0 → (b : ℕ) → b < t.lanes → at S.means S.ops sums.new b ≡ lane_pairing S.means S.ops t (memory ds.now us.now vs.now) (memory es.now ps.now qs.now) b }
     ensures refused { (answer result ≢ 0) → sums.new ≡ sums.old }
 {
     check_pairing(

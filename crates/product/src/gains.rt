@@ -9,7 +9,7 @@ use scalar::{Scalar, Scale};
 /// y gains c·p.
 fn gain_run<S: Scalar>(c: S, p: &[S], y: &mut [S])
     requires { length p.now ≡ length y.old }
-    ensures { Run means (λ i. ops.plus (at means ops y.old i) (ops.times (means c) (at means ops p.now i))) y.new }
+    ensures { Run S.means (λ i. S.ops.plus (at S.means S.ops y.old i) (S.ops.times (S.means c) (at S.means S.ops p.now i))) y.new }
 {
     for i in 0..y.len() {
         y[i] = y[i].add(c.mul(p[i]));
@@ -19,7 +19,7 @@ fn gain_run<S: Scalar>(c: S, p: &[S], y: &mut [S])
 /// The column of y that starts at place `to` gains c·p.
 fn gain_column<S: Scalar>(c: S, p: &[S], y: &mut [S], to: usize)
     requires { to + length p.now ≤ length y.old }
-    ensures { RunChanged to (length p.now) (λ i v. means v ≡ ops.plus (at means ops y.old (to + i)) (ops.times (means c) (at means ops p.now i))) y.old y.new }
+    ensures { RunChanged to (length p.now) (λ i v. S.means v ≡ S.ops.plus (at S.means S.ops y.old (to + i)) (S.ops.times (S.means c) (at S.means S.ops p.now i))) y.old y.new }
 {
     gain_run(c, p, &mut y[to..to + p.len()]);
 }
@@ -27,7 +27,7 @@ fn gain_column<S: Scalar>(c: S, p: &[S], y: &mut [S], to: usize)
 /// Column l of y, each as long as p, gains (a·x_l)·p.
 fn gain_columns<S: Scalar>(a: Scale<S>, x: &[S], p: &[S], y: &mut [S])
     requires { length y.old ≡ length x.now * length p.now }
-    ensures { (k : ℕ) (d : S) → k < length y.old → in_block means (length p.now) (λ l i. ops.plus (at means ops y.old (l * length p.now + i)) (ops.times (ops.times (means a.0) (at means ops x.now l)) (at means ops p.now i))) k (slice_index_or y.new k d) }
+    ensures { (k : ℕ) (d : S) → k < length y.old → in_block S.means (length p.now) (λ l i. S.ops.plus (at S.means S.ops y.old (l * length p.now + i)) (S.ops.times (S.ops.times (S.means a.0) (at S.means S.ops x.now l)) (at S.means S.ops p.now i))) k (slice_index_or y.new k d) }
 {
     for (l, c) in x.iter().enumerate() {
         gain_column(a.0.mul(*c), p, y, l * p.len());
@@ -47,7 +47,7 @@ pub(crate) fn gain_part<S: Scalar>(
 )
     requires source { from + rows ≤ length ps.now }
     requires target { to + length x.now * rows ≤ length ys.old }
-    ensures { RunChanged to (length x.now * rows) (in_block means rows (λ l i. ops.plus (at means ops ys.old (to + (l * rows + i))) (ops.times (ops.times (means a.0) (at means ops x.now l)) (at means ops ps.now (from + i))))) ys.old ys.new }
+    ensures { RunChanged to (length x.now * rows) (in_block S.means rows (λ l i. S.ops.plus (at S.means S.ops ys.old (to + (l * rows + i))) (S.ops.times (S.ops.times (S.means a.0) (at S.means S.ops x.now l)) (at S.means S.ops ps.now (from + i))))) ys.old ys.new }
 {
     gain_columns(
         a,

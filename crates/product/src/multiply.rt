@@ -23,7 +23,7 @@ fn band_lanes<S: Scalar>(
     ys: &mut [S],
 )
     requires { ProductLawful t (length ts.now) x (length xs.now) y (length ys.old) }
-    ensures { Applied means ops (summed ops) (means a.0) t.of ts.now t.first t.count (broadcast means ops x xs.now y.of.lanes) (means b.0) y ys.old ys.new }
+    ensures { Applied S.means S.ops (summed S.ops) (S.means a.0) t.of ts.now t.first t.count (broadcast S.means S.ops x xs.now y.of.lanes) (S.means b.0) y ys.old ys.new }
 {
     for lane in 0..y.of.lanes {
         let from = t.start(lane_for(lane, t.of.lanes, y.of.lanes));
@@ -44,8 +44,8 @@ fn gemv_lanes<S: Scalar>(
     ys: &mut [S],
 )
     requires { GemvLawful t (length ts.now) x (length xs.now) y (length ys.old) }
-    ensures sums { Gemv means ops (summed ops) (means a.0) t ts.now x xs.now (means b.0) y ys.old ys.new }
-    ensures exact { exact → Gemv means ops (linear ops) (means a.0) t ts.now x xs.now (means b.0) y ys.old ys.new }
+    ensures sums { Gemv S.means S.ops (summed S.ops) (S.means a.0) t ts.now x xs.now (S.means b.0) y ys.old ys.new }
+    ensures exact { S.exact → Gemv S.means S.ops (linear S.ops) (S.means a.0) t ts.now x xs.now (S.means b.0) y ys.old ys.new }
 {
     band_lanes(a, t.band(), ts, x, xs, b, y, ys);
 }
@@ -63,8 +63,8 @@ fn gemv_cols_lanes<S: Scalar>(
     ys: &mut [S],
 )
     requires { RangeLawful t (length ts.now) start n (length x.now) y (length ys.old) }
-    ensures sums { GemvCols means ops (summed ops) (means a.0) t ts.now start n x.now (means b.0) y ys.old ys.new }
-    ensures exact { exact → GemvCols means ops (linear ops) (means a.0) t ts.now start n x.now (means b.0) y ys.old ys.new }
+    ensures sums { GemvCols S.means S.ops (summed S.ops) (S.means a.0) t ts.now start n x.now (S.means b.0) y ys.old ys.new }
+    ensures exact { S.exact → GemvCols S.means S.ops (linear S.ops) (S.means a.0) t ts.now start n x.now (S.means b.0) y ys.old ys.new }
 {
     let band = Band {
         of: t,
@@ -93,8 +93,8 @@ pub fn gemv<S: Scalar>(
     ys: &mut [S],
 ) -> Result<(), Refusal>
     ensures verdict { answer result ≡ first_of (gemv_tests t (length ts.now) x (length xs.now) y (length ys.old)) }
-    ensures accepted { answer result ≡ 0 → Gemv means ops (summed ops) (means a.0) t ts.now x xs.now (means b.0) y ys.old ys.new }
-    ensures exact { exact → answer result ≡ 0 → Gemv means ops (linear ops) (means a.0) t ts.now x xs.now (means b.0) y ys.old ys.new }
+    ensures accepted { answer result ≡ 0 → Gemv S.means S.ops (summed S.ops) (S.means a.0) t ts.now x xs.now (S.means b.0) y ys.old ys.new }
+    ensures exact { S.exact → answer result ≡ 0 → Gemv S.means S.ops (linear S.ops) (S.means a.0) t ts.now x xs.now (S.means b.0) y ys.old ys.new }
     ensures refused { (answer result ≢ 0) → ys.new ≡ ys.old }
 {
     check_gemv(t, ts.len(), x, xs.len(), y, ys.len())?;
@@ -120,8 +120,8 @@ pub fn gemv_cols<S: Scalar>(
     ys: &mut [S],
 ) -> Result<(), Refusal>
     ensures verdict { answer result ≡ first_of (gemv_cols_tests t (length ts.now) start end (length x.now) y (length ys.old)) }
-    ensures accepted { answer result ≡ 0 → GemvCols means ops (summed ops) (means a.0) t ts.now start (end - start) x.now (means b.0) y ys.old ys.new }
-    ensures exact { exact → answer result ≡ 0 → GemvCols means ops (linear ops) (means a.0) t ts.now start (end - start) x.now (means b.0) y ys.old ys.new }
+    ensures accepted { answer result ≡ 0 → GemvCols S.means S.ops (summed S.ops) (S.means a.0) t ts.now start (end - start) x.now (S.means b.0) y ys.old ys.new }
+    ensures exact { S.exact → answer result ≡ 0 → GemvCols S.means S.ops (linear S.ops) (S.means a.0) t ts.now start (end - start) x.now (S.means b.0) y ys.old ys.new }
     ensures refused { (answer result ≢ 0) → ys.new ≡ ys.old }
 {
     let apart = no_broadcast(t.lanes, y.of.lanes);

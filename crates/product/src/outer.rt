@@ -21,7 +21,7 @@ fn spread_lanes<S: Scalar>(
     start: usize,
 )
     requires { RangeLawful t (length ts.old) start (length x.now) (length x.now) p (length ps.now) }
-    ensures { GerCols means ops (means a.0) x.now p ps.now t start (length x.now) ts.old ts.new }
+    ensures { GerCols S.means S.ops (S.means a.0) x.now p ps.now t start (length x.now) ts.old ts.new }
 {
     let target = Band {
         of: t,
@@ -45,7 +45,7 @@ fn ger_cols_lanes<S: Scalar>(
     n: usize,
 )
     requires { RangeLawful t (length ts.old) start n (length x.now) p (length ps.now) }
-    ensures { GerCols means ops (means a.0) x.now p ps.now t start n ts.old ts.new }
+    ensures { GerCols S.means S.ops (S.means a.0) x.now p ps.now t start n ts.old ts.new }
 {
     spread_lanes(a, &x[..n], p, ps, t, ts, start);
 }
@@ -66,7 +66,7 @@ pub fn ger_cols<S: Scalar>(
     end: usize,
 ) -> Result<(), Refusal>
     ensures verdict { answer result ≡ first_of (ger_cols_tests t (length ts.old) start end (length x.now) p (length ps.now)) }
-    ensures accepted { answer result ≡ 0 → GerCols means ops (means a.0) x.now p ps.now t start (end - start) ts.old ts.new }
+    ensures accepted { answer result ≡ 0 → GerCols S.means S.ops (S.means a.0) x.now p ps.now t start (end - start) ts.old ts.new }
     ensures refused { (answer result ≢ 0) → ts.new ≡ ts.old }
 {
     let apart = no_broadcast(p.of.lanes, t.lanes);

@@ -11,7 +11,7 @@ use scalar::{Scalar, Scale};
 
 /// y becomes zero.
 fn clear_run<S: Scalar>(y: &mut [S])
-    ensures { Run means (λ i. ops.zero) y.new }
+    ensures { Run S.means (λ i. S.ops.zero) y.new }
 {
     for i in 0..y.len() {
         y[i] = S::zero();
@@ -20,7 +20,7 @@ fn clear_run<S: Scalar>(y: &mut [S])
 
 /// y becomes b·y.
 fn scale_run<S: Scalar>(b: Scale<S>, y: &mut [S])
-    ensures { Run means (λ i. ops.times (means b.0) (at means ops y.old i)) y.new }
+    ensures { Run S.means (λ i. S.ops.times (S.means b.0) (at S.means S.ops y.old i)) y.new }
 {
     for i in 0..y.len() {
         y[i] = b.0.mul(y[i]);
@@ -30,7 +30,7 @@ fn scale_run<S: Scalar>(b: Scale<S>, y: &mut [S])
 /// y becomes (a·d)·x.
 fn assign_run<S: Scalar>(a: Scale<S>, d: &[S], x: S, y: &mut [S])
     requires { length d.now ≡ length y.old }
-    ensures { Run means (λ i. ops.times (ops.times (means a.0) (at means ops d.now i)) (means x)) y.new }
+    ensures { Run S.means (λ i. S.ops.times (S.ops.times (S.means a.0) (at S.means S.ops d.now i)) (S.means x)) y.new }
 {
     for i in 0..y.len() {
         y[i] = a.0.mul(d[i]).mul(x);
@@ -40,7 +40,7 @@ fn assign_run<S: Scalar>(a: Scale<S>, d: &[S], x: S, y: &mut [S])
 /// y becomes (a·d)·x + b·y.
 fn combine_run<S: Scalar>(a: Scale<S>, d: &[S], x: S, b: Scale<S>, y: &mut [S])
     requires { length d.now ≡ length y.old }
-    ensures { Run means (λ i. ops.plus (ops.times (ops.times (means a.0) (at means ops d.now i)) (means x)) (ops.times (means b.0) (at means ops y.old i))) y.new }
+    ensures { Run S.means (λ i. S.ops.plus (S.ops.times (S.ops.times (S.means a.0) (at S.means S.ops d.now i)) (S.means x)) (S.ops.times (S.means b.0) (at S.means S.ops y.old i))) y.new }
 {
     for i in 0..y.len() {
         y[i] = a.0.mul(d[i]).mul(x).add(b.0.mul(y[i]));
@@ -50,7 +50,7 @@ fn combine_run<S: Scalar>(a: Scale<S>, d: &[S], x: S, b: Scale<S>, y: &mut [S])
 /// y gains (a·d)·x.
 fn add_run<S: Scalar>(a: Scale<S>, d: &[S], x: S, y: &mut [S])
     requires { length d.now ≡ length y.old }
-    ensures { Run means (λ i. ops.plus (at means ops y.old i) (ops.times (ops.times (means a.0) (at means ops d.now i)) (means x))) y.new }
+    ensures { Run S.means (λ i. S.ops.plus (at S.means S.ops y.old i) (S.ops.times (S.ops.times (S.means a.0) (at S.means S.ops d.now i)) (S.means x))) y.new }
 {
     for i in 0..y.len() {
         y[i] = y[i].add(a.0.mul(d[i]).mul(x));
@@ -59,7 +59,7 @@ fn add_run<S: Scalar>(a: Scale<S>, d: &[S], x: S, y: &mut [S])
 
 /// What no columns give: b·y, or zero where b is zero.
 fn no_columns<S: Scalar>(b: Scale<S>, y: &mut [S])
-    ensures { Run means (λ i. (if ops.is_zero (means b.0) then ops.zero else ops.times (means b.0) (at means ops y.old i))) y.new }
+    ensures { Run S.means (λ i. (if S.ops.is_zero (S.means b.0) then S.ops.zero else S.ops.times (S.means b.0) (at S.means S.ops y.old i))) y.new }
 {
     if b.0.is_zero() {
         clear_run(y);
@@ -71,7 +71,7 @@ fn no_columns<S: Scalar>(b: Scale<S>, y: &mut [S])
 /// The first column: (a·d)·x + b·y, and (a·d)·x alone where b is zero.
 fn first_column<S: Scalar>(a: Scale<S>, d: &[S], x: S, b: Scale<S>, y: &mut [S])
     requires { length d.now ≡ length y.old }
-    ensures { Run means (λ i. blend ops (ops.times (means a.0) (at means ops d.now i)) (means x) (means b.0) (at means ops y.old i)) y.new }
+    ensures { Run S.means (λ i. blend S.ops (S.ops.times (S.means a.0) (at S.means S.ops d.now i)) (S.means x) (S.means b.0) (at S.means S.ops y.old i)) y.new }
 {
     if b.0.is_zero() {
         assign_run(a, d, x, y);
@@ -83,7 +83,7 @@ fn first_column<S: Scalar>(a: Scale<S>, d: &[S], x: S, b: Scale<S>, y: &mut [S])
 /// y gains the column that starts at place `from`.
 fn add_column<S: Scalar>(a: Scale<S>, d: &[S], from: usize, x: S, y: &mut [S])
     requires { from + length y.old ≤ length d.now }
-    ensures { Run means (λ i. ops.plus (at means ops y.old i) (ops.times (ops.times (means a.0) (at means ops d.now (from + i))) (means x))) y.new }
+    ensures { Run S.means (λ i. S.ops.plus (at S.means S.ops y.old i) (S.ops.times (S.ops.times (S.means a.0) (at S.means S.ops d.now (from + i))) (S.means x))) y.new }
 {
     let rows = y.len();
     add_run(a, &d[from..from + rows], x, y);
@@ -93,7 +93,7 @@ fn add_column<S: Scalar>(a: Scale<S>, d: &[S], from: usize, x: S, y: &mut [S])
 fn later_columns<S: Scalar>(a: Scale<S>, d: &[S], x: &[S], y: &mut [S])
     requires some { 0 < length x.now }
     requires room { length x.now * length y.old ≤ length d.now }
-    ensures { Run means (λ i. sum_from ops (at means ops y.old i) (λ l. ops.times (ops.times (means a.0) (run_row means ops d.now (length y.old) i (suc l))) (at means ops x.now (suc l))) (length x.now - 1)) y.new }
+    ensures { Run S.means (λ i. sum_from S.ops (at S.means S.ops y.old i) (λ l. S.ops.times (S.ops.times (S.means a.0) (run_row S.means S.ops d.now (length y.old) i (suc l))) (at S.means S.ops x.now (suc l))) (length x.now - 1)) y.new }
 {
     for l in 1..x.len() {
         add_column(a, d, l * y.len(), x[l], y);
@@ -103,7 +103,7 @@ fn later_columns<S: Scalar>(a: Scale<S>, d: &[S], x: &[S], y: &mut [S])
 /// y becomes the sum of d's columns, each as long as y, times a and the coefficients x, onto b·y.
 fn sum_columns<S: Scalar>(a: Scale<S>, d: &[S], x: &[S], b: Scale<S>, y: &mut [S])
     requires { length x.now * length y.old ≤ length d.now }
-    ensures { Run means (λ i. summed ops (run_row means ops d.now (length y.old) i) 0 (length x.now) (means a.0) (means b.0) (λ l. at means ops x.now l) (at means ops y.old i)) y.new }
+    ensures { Run S.means (λ i. summed S.ops (run_row S.means S.ops d.now (length y.old) i) 0 (length x.now) (S.means a.0) (S.means b.0) (λ l. at S.means S.ops x.now l) (at S.means S.ops y.old i)) y.new }
 {
     if x.is_empty() {
         no_columns(b, y);
@@ -130,7 +130,7 @@ pub(crate) fn sum_part<S: Scalar>(
     requires table { from + count * rows ≤ length ds.now }
     requires source { with + count ≤ length xs.now }
     requires target { to + rows ≤ length ys.old }
-    ensures { RunChanged to rows (λ i v. means v ≡ summed ops (λ l. at means ops ds.now (from + (l * rows + i))) 0 count (means a.0) (means b.0) (λ l. at means ops xs.now (with + l)) (at means ops ys.old (to + i))) ys.old ys.new }
+    ensures { RunChanged to rows (λ i v. S.means v ≡ summed S.ops (λ l. at S.means S.ops ds.now (from + (l * rows + i))) 0 count (S.means a.0) (S.means b.0) (λ l. at S.means S.ops xs.now (with + l)) (at S.means S.ops ys.old (to + i))) ys.old ys.new }
 {
     sum_columns(
         a,

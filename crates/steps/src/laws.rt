@@ -11,13 +11,13 @@ use scalar::{Pair, Residue, Scalar, Wrap};
 /// end, paired with any weights, gives what the state at the beginning gives with the weights
 /// carried back, latest step first.
 pub fn runs_are_transposed<S: Scalar>()
-    ensures { exact → Transposed ops }
+    ensures { S.exact → Transposed S.ops }
 {}
 
 /// For every scalar, states alike in a lane are alike in it after any run, and weights alike in a
 /// lane are carried back alike.
 pub fn lanes_stay_apart<S: Scalar>()
-    ensures { Apart ops }
+    ensures { Apart S.ops }
 {}
 
 /// The exact scalars of this library: numbers modulo 2^64 and modulo 2^31 − 1, and pairs of a value

@@ -22,8 +22,8 @@ use state::StepRecord;
 /// hand. For every exact scalar the backward run is the transpose of the forward run; for every
 /// scalar no two lanes mix, and refusals come from no entry.
 pub fn laws_of_runs<S: Scalar>(t: TableShape)
-    ensures transposed { exact → RunsTransposed ops t.rows t.cols t.lanes (lane_of means ops t) }
-    ensures apart { RunsApart ops t.rows t.cols t.lanes (lane_of means ops t) }
+    ensures transposed { S.exact → RunsTransposed S.ops t.rows t.cols t.lanes (lane_of S.means S.ops t) }
+    ensures apart { RunsApart S.ops t.rows t.cols t.lanes (lane_of S.means S.ops t) }
 {}
 
 /// Every step of a script, forward; the number of each answer is kept.
@@ -43,7 +43,7 @@ fn run_forward<S: Scalar>(
     requires answers { length answers.old ≡ length script.now }
     ensures shape { sweep.new.shape ≡ sweep.old.shape }
     ensures taken { sweep.new.taken ≡ length script.now }
-    ensures run { RunForward ops sweep.old.shape.rows sweep.old.shape.cols sweep.old.shape.lanes (lane_of means ops sweep.old.shape) (steps_of means script.now numbers.now indices.now) answers.new (memory ds.old us.old vs.old) (memory ds.new us.new vs.new) }
+    ensures run { RunForward S.ops sweep.old.shape.rows sweep.old.shape.cols sweep.old.shape.lanes (lane_of S.means S.ops sweep.old.shape) (steps_of S.means script.now numbers.now indices.now) answers.new (memory ds.old us.old vs.old) (memory ds.new us.new vs.new) }
 {
     for i in 0..script.len() {
         let answer = sweep.step(script, numbers, indices, ds, us, vs, work);
@@ -65,7 +65,7 @@ fn run_back<S: Scalar>(
 )
     requires all { turned.old.left ≡ length script.now }
     requires room { first_of (weights_tests turned.old.shape (length es.old) (length ps.old) (length qs.old) (length ws.old) (length work.old)) ≡ 0 }
-    ensures { (ks : List ℕ) × RunBack ops turned.old.shape.rows turned.old.shape.cols turned.old.shape.lanes (lane_of means ops turned.old.shape) (steps_of means script.now numbers.now indices.now) ks (weights es.old ps.old qs.old) (weights es.new ps.new qs.new) }
+    ensures { (ks : List ℕ) × RunBack S.ops turned.old.shape.rows turned.old.shape.cols turned.old.shape.lanes (lane_of S.means S.ops turned.old.shape) (steps_of S.means script.now numbers.now indices.now) ks (weights es.old ps.old qs.old) (weights es.new ps.new qs.new) }
 {
     while turned.left > 0 {
         let _ = turned.back(script, numbers, indices, es, ps, qs, ws, work);
@@ -118,8 +118,8 @@ fn run_both<S: Scalar>(
     requires state { first_of (memory_tests t (length ds.old) (length us.old) (length vs.old) (length work.old)) ≡ 0 }
     requires weights { first_of (weights_tests t (length es.old) (length ps.old) (length qs.old) (length ws.old) (length work.old)) ≡ 0 }
     requires answers { length answers.old ≡ length script.now }
-    ensures forward { RunForward ops t.rows t.cols t.lanes (lane_of means ops t) (steps_of means script.now numbers.now indices.now) answers.new (memory ds.old us.old vs.old) (memory ds.new us.new vs.new) }
-    ensures back { RunBack ops t.rows t.cols t.lanes (lane_of means ops t) (steps_of means script.now numbers.now indices.now) answers.new (weights es.old ps.old qs.old) (weights es.new ps.new qs.new) }
+    ensures forward { RunForward S.ops t.rows t.cols t.lanes (lane_of S.means S.ops t) (steps_of S.means script.now numbers.now indices.now) answers.new (memory ds.old us.old vs.old) (memory ds.new us.new vs.new) }
+    ensures back { RunBack S.ops t.rows t.cols t.lanes (lane_of S.means S.ops t) (steps_of S.means script.now numbers.now indices.now) answers.new (weights es.old ps.old qs.old) (weights es.new ps.new qs.new) }
 {
     let mut sweep = Sweep { shape: t, taken: 0 };
     run_forward(
@@ -157,12 +157,12 @@ pub fn run_script<S: Scalar>(
     work: &mut [S],
     answers: &mut [u8],
 ) -> Result<(), Refusal>
-    ensures transposed { exact → RunsTransposed ops t.rows t.cols t.lanes (lane_of means ops t) }
-    ensures apart { RunsApart ops t.rows t.cols t.lanes (lane_of means ops t) }
+    ensures transposed { S.exact → RunsTransposed S.ops t.rows t.cols t.lanes (lane_of S.means S.ops t) }
+    ensures apart { RunsApart S.ops t.rows t.cols t.lanes (lane_of S.means S.ops t) }
     ensures verdict { answer result ≡ first_of (run_tests t (length script.now) (length ds.old) (length us.old) (length vs.old) (length es.old) (length ps.old) (length qs.old) (length ws.old) (length work.old) (length answers.old)) }
-    ensures forward { answer result ≡ 0 → RunForward ops t.rows t.cols t.lanes (lane_of means ops t) (steps_of means script.now numbers.now indices.now) answers.new (memory ds.old us.old vs.old) (memory ds.new us.new vs.new) }
-    ensures back { answer result ≡ 0 → RunBack ops t.rows t.cols t.lanes (lane_of means ops t) (steps_of means script.now numbers.now indices.now) answers.new (weights es.old ps.old qs.old) (weights es.new ps.new qs.new) }
-    ensures paired { exact → answer result ≡ 0 → PairedAlike means ops t (memory ds.old us.old vs.old) (memory ds.new us.new vs.new) (weights es.old ps.old qs.old) (weights es.new ps.new qs.new) }
+    ensures forward { answer result ≡ 0 → RunForward S.ops t.rows t.cols t.lanes (lane_of S.means S.ops t) (steps_of S.means script.now numbers.now indices.now) answers.new (memory ds.old us.old vs.old) (memory ds.new us.new vs.new) }
+    ensures back { answer result ≡ 0 → RunBack S.ops t.rows t.cols t.lanes (lane_of S.means S.ops t) (steps_of S.means script.now numbers.now indices.now) answers.new (weights es.old ps.old qs.old) (weights es.new ps.new qs.new) }
+    ensures paired { S.exact → answer result ≡ 0 → PairedAlike S.means S.ops t (memory ds.old us.old vs.old) (memory ds.new us.new vs.new) (weights es.old ps.old qs.old) (weights es.new ps.new qs.new) }
     ensures refused { (answer result ≢ 0) → (ds.new ≡ ds.old) × (us.new ≡ us.old) × (vs.new ≡ vs.old) × (es.new ≡ es.old) × (ps.new ≡ ps.old) × (qs.new ≡ qs.old) × (ws.new ≡ ws.old) × (work.new ≡ work.old) × (answers.new ≡ answers.old) }
 {
     laws_of_runs::<S>(t);

@@ -69,7 +69,7 @@ fn take_at<S: Scalar>(
     requires inside { place < length script.now }
     requires room { first_of (memory_tests t (length ds.old) (length us.old) (length vs.old) (length work.old)) ≡ 0 }
     ensures place { Placed place result }
-    ensures step { StepForward ops t.rows t.cols t.lanes (lane_of means ops t) (step_at means script.now numbers.now indices.now place) (answered result) (memory ds.old us.old vs.old) (memory ds.new us.new vs.new) }
+    ensures step { StepForward S.ops t.rows t.cols t.lanes (lane_of S.means S.ops t) (step_at S.means script.now numbers.now indices.now place) (answered result) (memory ds.old us.old vs.old) (memory ds.new us.new vs.new) }
     ensures refused { (answered result ≢ 0) → (ds.new ≡ ds.old) × (us.new ≡ us.old) × (vs.new ≡ vs.old) × (work.new ≡ work.old) }
 {
     match step_forward(t, ds, us, vs, script[place], numbers, indices, work) {
@@ -116,7 +116,7 @@ fn carry_at<S: Scalar>(
     requires inside { place < length script.now }
     requires room { first_of (weights_tests t (length es.old) (length ps.old) (length qs.old) (length ws.old) (length work.old)) ≡ 0 }
     ensures place { Placed place result }
-    ensures step { StepBack ops t.rows t.cols t.lanes (lane_of means ops t) (step_at means script.now numbers.now indices.now place) (answered result) (weights es.old ps.old qs.old) (weights es.new ps.new qs.new) }
+    ensures step { StepBack S.ops t.rows t.cols t.lanes (lane_of S.means S.ops t) (step_at S.means script.now numbers.now indices.now place) (answered result) (weights es.old ps.old qs.old) (weights es.new ps.new qs.new) }
     ensures refused { (answered result ≢ 0) → (es.new ≡ es.old) × (ps.new ≡ ps.old) × (qs.new ≡ qs.old) × (ws.new ≡ ws.old) × (work.new ≡ work.old) }
 {
     match step_back(t, es, ps, qs, ws, script[place], numbers, indices, work) {
@@ -158,7 +158,7 @@ impl Sweep {
         ensures shape { self.new.shape ≡ self.old.shape }
         ensures place { Placed self.old.taken result }
         ensures waits { (first_of (forward_tests self.old (length script.now) (length ds.old) (length us.old) (length vs.old) (length work.old)) ≢ 0) → (answered result ≡ first_of (forward_tests self.old (length script.now) (length ds.old) (length us.old) (length vs.old) (length work.old))) × (self.new.taken ≡ self.old.taken) }
-        ensures next { first_of (forward_tests self.old (length script.now) (length ds.old) (length us.old) (length vs.old) (length work.old)) ≡ 0 → (self.new.taken ≡ self.old.taken + 1) × StepForward ops self.old.shape.rows self.old.shape.cols self.old.shape.lanes (lane_of means ops self.old.shape) (step_at means script.now numbers.now indices.now self.old.taken) (answered result) (memory ds.old us.old vs.old) (memory ds.new us.new vs.new) }
+        ensures next { first_of (forward_tests self.old (length script.now) (length ds.old) (length us.old) (length vs.old) (length work.old)) ≡ 0 → (self.new.taken ≡ self.old.taken + 1) × StepForward S.ops self.old.shape.rows self.old.shape.cols self.old.shape.lanes (lane_of S.means S.ops self.old.shape) (step_at S.means script.now numbers.now indices.now self.old.taken) (answered result) (memory ds.old us.old vs.old) (memory ds.new us.new vs.new) }
         ensures refused { (answered result ≢ 0) → (ds.new ≡ ds.old) × (us.new ≡ us.old) × (vs.new ≡ vs.old) × (work.new ≡ work.old) }
     {
         let place = self.taken;
@@ -204,7 +204,7 @@ impl Turned {
         ensures shape { self.new.shape ≡ self.old.shape }
         ensures place { Placed (self.old.left - 1) result }
         ensures waits { (first_of (back_tests self.old (length script.now) (length es.old) (length ps.old) (length qs.old) (length ws.old) (length work.old)) ≢ 0) → (answered result ≡ first_of (back_tests self.old (length script.now) (length es.old) (length ps.old) (length qs.old) (length ws.old) (length work.old))) × (self.new.left ≡ self.old.left) }
-        ensures next { first_of (back_tests self.old (length script.now) (length es.old) (length ps.old) (length qs.old) (length ws.old) (length work.old)) ≡ 0 → (self.old.left ≡ self.new.left + 1) × StepBack ops self.old.shape.rows self.old.shape.cols self.old.shape.lanes (lane_of means ops self.old.shape) (step_at means script.now numbers.now indices.now self.new.left) (answered result) (weights es.old ps.old qs.old) (weights es.new ps.new qs.new) }
+        ensures next { first_of (back_tests self.old (length script.now) (length es.old) (length ps.old) (length qs.old) (length ws.old) (length work.old)) ≡ 0 → (self.old.left ≡ self.new.left + 1) × StepBack S.ops self.old.shape.rows self.old.shape.cols self.old.shape.lanes (lane_of S.means S.ops self.old.shape) (step_at S.means script.now numbers.now indices.now self.new.left) (answered result) (weights es.old ps.old qs.old) (weights es.new ps.new qs.new) }
         ensures refused { (answered result ≢ 0) → (es.new ≡ es.old) × (ps.new ≡ ps.old) × (qs.new ≡ qs.old) × (ws.new ≡ ws.old) × (work.new ≡ work.old) }
     {
         let place = self.left.saturating_sub(1);

@@ -19,7 +19,7 @@ pub fn add_assign<S: Scalar>(
     ys: &mut [S],
 ) -> Result<(), Refusal>
     ensures verdict { answer result ≡ first_of (table_tests x (length xs.now) y (length ys.old)) }
-    ensures accepted { answer result ≡ 0 → Tablewise x xs.now y (λ p q v. means v ≡ ops.plus (means q) (means p)) ys.old ys.new }
+    ensures accepted { answer result ≡ 0 → Tablewise x xs.now y (λ p q v. S.means v ≡ S.ops.plus (S.means q) (S.means p)) ys.old ys.new }
     ensures refused { (answer result ≢ 0) → ys.new ≡ ys.old }
 {
     zip_tables(Sum, x, xs, y, ys)
@@ -33,7 +33,7 @@ pub fn sub_assign<S: Scalar>(
     ys: &mut [S],
 ) -> Result<(), Refusal>
     ensures verdict { answer result ≡ first_of (table_tests x (length xs.now) y (length ys.old)) }
-    ensures accepted { answer result ≡ 0 → Tablewise x xs.now y (λ p q v. means v ≡ less ops (means q) (means p)) ys.old ys.new }
+    ensures accepted { answer result ≡ 0 → Tablewise x xs.now y (λ p q v. S.means v ≡ less S.ops (S.means q) (S.means p)) ys.old ys.new }
     ensures refused { (answer result ≢ 0) → ys.new ≡ ys.old }
 {
     zip_tables(Difference, x, xs, y, ys)
@@ -47,7 +47,7 @@ pub fn sub_into<S: Scalar>(
     ys: &mut [S],
 ) -> Result<(), Refusal>
     ensures verdict { answer result ≡ first_of (table_tests x (length xs.now) y (length ys.old)) }
-    ensures accepted { answer result ≡ 0 → Tablewise x xs.now y (λ p q v. means v ≡ less ops (means p) (means q)) ys.old ys.new }
+    ensures accepted { answer result ≡ 0 → Tablewise x xs.now y (λ p q v. S.means v ≡ less S.ops (S.means p) (S.means q)) ys.old ys.new }
     ensures refused { (answer result ≢ 0) → ys.new ≡ ys.old }
 {
     zip_tables(Reverse, x, xs, y, ys)
@@ -56,7 +56,7 @@ pub fn sub_into<S: Scalar>(
 /// y becomes y·by.
 pub fn mul_assign<S: Scalar>(by: Scale<S>, y: TableShape, ys: &mut [S]) -> Result<(), Refusal>
     ensures verdict { answer result ≡ first_of (shape_tests y (length ys.old)) }
-    ensures accepted { answer result ≡ 0 → Revised-table y (λ q v. means v ≡ ops.times (means q) (means by.0)) ys.old ys.new }
+    ensures accepted { answer result ≡ 0 → Revised-table y (λ q v. S.means v ≡ S.ops.times (S.means q) (S.means by.0)) ys.old ys.new }
     ensures refused { (answer result ≢ 0) → ys.new ≡ ys.old }
 {
     revise_table(Scaled { by }, y, ys)

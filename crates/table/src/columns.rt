@@ -36,7 +36,7 @@ pub fn add_column_to_vector<S: Scalar>(
     vs: &mut [S],
 ) -> Result<(), Refusal>
     ensures verdict { answer result ≡ first_of (pair_tests (column_of t j) (length ts.now) v (length vs.old)) }
-    ensures accepted { answer result ≡ 0 → Entrywise (column_of t j) ts.now v (λ p q w. means w ≡ ops.plus (means q) (means p)) vs.old vs.new }
+    ensures accepted { answer result ≡ 0 → Entrywise (column_of t j) ts.now v (λ p q w. S.means w ≡ S.ops.plus (S.means q) (S.means p)) vs.old vs.new }
     ensures refused { (answer result ≢ 0) → vs.new ≡ vs.old }
 {
     vector::add_assign(Column { of: t, col: j }, ts, v, vs)
@@ -46,7 +46,7 @@ pub fn add_column_to_vector<S: Scalar>(
 /// shapes are lawful, so it is accepted.
 fn add_columns<S: Scalar>(t: TableShape, ts: &[S], v: Column, vs: &mut [S])
     requires { ColumnsLawful t (length ts.now) v (length vs.old) }
-    ensures { ColumnsAdded means ops t ts.now v vs.old vs.new }
+    ensures { ColumnsAdded S.means S.ops t ts.now v vs.old vs.new }
 {
     let _ = vector::add_assign(Column::vector(t.rows, v.of.lanes), ts, v, vs);
 }
@@ -59,7 +59,7 @@ pub fn add_columns_to_batched_vector<S: Scalar>(
     vs: &mut [S],
 ) -> Result<(), Refusal>
     ensures verdict { answer result ≡ first_of (columns_tests t (length ts.now) v (length vs.old)) }
-    ensures accepted { answer result ≡ 0 → ColumnsAdded means ops t ts.now v vs.old vs.new }
+    ensures accepted { answer result ≡ 0 → ColumnsAdded S.means S.ops t ts.now v vs.old vs.new }
     ensures refused { (answer result ≢ 0) → vs.new ≡ vs.old }
 {
     check_columns(t, ts.len(), v, vs.len())?;

@@ -35,7 +35,7 @@ fn scale_add_cells<S: Scalar>(
     ts: &mut [S],
 )
     requires { ThreeLawful x (length xs.now) y (length ys.now) t (length ts.old) }
-    ensures { ScaleAdded means ops x xs.now (means b.0) y ys.now t ts.old ts.new }
+    ensures { ScaleAdded S.means S.ops x xs.now (S.means b.0) y ys.now t ts.old ts.new }
 {
     let _ = zip_tables(Replace, x, xs, t, ts);
     let _ = zip_tables(Gain { by: b }, y, ys, t, ts);
@@ -52,7 +52,7 @@ pub fn scale_add_and_assign<S: Scalar>(
     ts: &mut [S],
 ) -> Result<(), Refusal>
     ensures verdict { answer result ≡ first_of (three_tests x (length xs.now) y (length ys.now) t (length ts.old)) }
-    ensures accepted { answer result ≡ 0 → ScaleAdded means ops x xs.now (means b.0) y ys.now t ts.old ts.new }
+    ensures accepted { answer result ≡ 0 → ScaleAdded S.means S.ops x xs.now (S.means b.0) y ys.now t ts.old ts.new }
     ensures refused { (answer result ≢ 0) → ts.new ≡ ts.old }
 {
     check_three(x, xs.len(), y, ys.len(), t, ts.len())?;

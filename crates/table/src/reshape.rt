@@ -14,7 +14,7 @@ use shape::{Column, Refusal, TableShape};
 /// Zero everywhere, and then row i into column i. The shapes are lawful, so each call is accepted.
 fn place_diagonal<S: Scalar>(v: Column, vs: &[S], t: TableShape, ts: &mut [S])
     requires { DiagonalLawful v (length vs.now) t (length ts.old) }
-    ensures { Diagonal means ops v vs.now t ts.old ts.new }
+    ensures { Diagonal S.means S.ops v vs.now t ts.old ts.new }
 {
     let _ = fill(S::zero(), t, ts);
     for i in 0..t.cols {
@@ -30,7 +30,7 @@ pub fn from_diagonal<S: Scalar>(
     ts: &mut [S],
 ) -> Result<(), Refusal>
     ensures verdict { answer result ≡ first_of (diagonal_tests v (length vs.now) t (length ts.old)) }
-    ensures accepted { answer result ≡ 0 → Diagonal means ops v vs.now t ts.old ts.new }
+    ensures accepted { answer result ≡ 0 → Diagonal S.means S.ops v vs.now t ts.old ts.new }
     ensures refused { (answer result ≢ 0) → ts.new ≡ ts.old }
 {
     check_diagonal(v, vs.len(), t, ts.len())?;
@@ -42,7 +42,7 @@ pub fn from_diagonal<S: Scalar>(
 /// accepted.
 fn resize_cells<S: Scalar>(x: TableShape, xs: &[S], y: TableShape, ys: &mut [S])
     requires { ResizeLawful x (length xs.now) y (length ys.old) }
-    ensures { Resized means ops x xs.now y ys.old ys.new }
+    ensures { Resized S.means S.ops x xs.now y ys.old ys.new }
 {
     let _ = fill(S::zero(), y, ys);
     let shared = if x.cols < y.cols { x.cols } else { y.cols };
@@ -60,7 +60,7 @@ pub fn resize_cols<S: Scalar>(
     ys: &mut [S],
 ) -> Result<(), Refusal>
     ensures verdict { answer result ≡ first_of (resize_tests x (length xs.now) y (length ys.old)) }
-    ensures accepted { answer result ≡ 0 → Resized means ops x xs.now y ys.old ys.new }
+    ensures accepted { answer result ≡ 0 → Resized S.means S.ops x xs.now y ys.old ys.new }
     ensures refused { (answer result ≢ 0) → ys.new ≡ ys.old }
 {
     check_resize(x, xs.len(), y, ys.len())?;

@@ -102,7 +102,7 @@ impl<S: Ordered> Revision<S> for Divided<S> {
 /// y becomes y + x.
 pub fn add_assign<S: Scalar>(x: Column, xs: &[S], y: Column, ys: &mut [S]) -> Result<(), Refusal>
     ensures verdict { answer result ≡ first_of (pair_tests x (length xs.now) y (length ys.old)) }
-    ensures accepted { answer result ≡ 0 → Entrywise x xs.now y (λ p q v. means v ≡ ops.plus (means q) (means p)) ys.old ys.new }
+    ensures accepted { answer result ≡ 0 → Entrywise x xs.now y (λ p q v. S.means v ≡ S.ops.plus (S.means q) (S.means p)) ys.old ys.new }
     ensures refused { (answer result ≢ 0) → ys.new ≡ ys.old }
 {
     zip(Sum, x, xs, y, ys)
@@ -111,7 +111,7 @@ pub fn add_assign<S: Scalar>(x: Column, xs: &[S], y: Column, ys: &mut [S]) -> Re
 /// y becomes y − x.
 pub fn sub_assign<S: Scalar>(x: Column, xs: &[S], y: Column, ys: &mut [S]) -> Result<(), Refusal>
     ensures verdict { answer result ≡ first_of (pair_tests x (length xs.now) y (length ys.old)) }
-    ensures accepted { answer result ≡ 0 → Entrywise x xs.now y (λ p q v. means v ≡ less ops (means q) (means p)) ys.old ys.new }
+    ensures accepted { answer result ≡ 0 → Entrywise x xs.now y (λ p q v. S.means v ≡ less S.ops (S.means q) (S.means p)) ys.old ys.new }
     ensures refused { (answer result ≢ 0) → ys.new ≡ ys.old }
 {
     zip(Difference, x, xs, y, ys)
@@ -120,7 +120,7 @@ pub fn sub_assign<S: Scalar>(x: Column, xs: &[S], y: Column, ys: &mut [S]) -> Re
 /// The right operand y becomes x − y: the left one broadcasts into it.
 pub fn sub_into<S: Scalar>(x: Column, xs: &[S], y: Column, ys: &mut [S]) -> Result<(), Refusal>
     ensures verdict { answer result ≡ first_of (pair_tests x (length xs.now) y (length ys.old)) }
-    ensures accepted { answer result ≡ 0 → Entrywise x xs.now y (λ p q v. means v ≡ less ops (means p) (means q)) ys.old ys.new }
+    ensures accepted { answer result ≡ 0 → Entrywise x xs.now y (λ p q v. S.means v ≡ less S.ops (S.means p) (S.means q)) ys.old ys.new }
     ensures refused { (answer result ≢ 0) → ys.new ≡ ys.old }
 {
     zip(Reverse, x, xs, y, ys)
@@ -134,7 +134,7 @@ pub fn component_mul_assign<S: Scalar>(
     ys: &mut [S],
 ) -> Result<(), Refusal>
     ensures verdict { answer result ≡ first_of (pair_tests x (length xs.now) y (length ys.old)) }
-    ensures accepted { answer result ≡ 0 → Entrywise x xs.now y (λ p q v. means v ≡ ops.times (means q) (means p)) ys.old ys.new }
+    ensures accepted { answer result ≡ 0 → Entrywise x xs.now y (λ p q v. S.means v ≡ S.ops.times (S.means q) (S.means p)) ys.old ys.new }
     ensures refused { (answer result ≢ 0) → ys.new ≡ ys.old }
 {
     zip(Product, x, xs, y, ys)
@@ -148,7 +148,7 @@ pub fn component_div_assign<S: Ordered>(
     ys: &mut [S],
 ) -> Result<(), Refusal>
     ensures verdict { answer result ≡ first_of (pair_tests x (length xs.now) y (length ys.old)) }
-    ensures accepted { answer result ≡ 0 → Entrywise x xs.now y (λ p q v. means v ≡ order.over (means q) (means p)) ys.old ys.new }
+    ensures accepted { answer result ≡ 0 → Entrywise x xs.now y (λ p q v. S.means v ≡ S.order.over (S.means q) (S.means p)) ys.old ys.new }
     ensures refused { (answer result ≢ 0) → ys.new ≡ ys.old }
 {
     zip(Quotient, x, xs, y, ys)
@@ -157,7 +157,7 @@ pub fn component_div_assign<S: Ordered>(
 /// y becomes y·by.
 pub fn mul_assign<S: Scalar>(by: Scale<S>, y: Column, ys: &mut [S]) -> Result<(), Refusal>
     ensures verdict { answer result ≡ first_of (column_tests y (length ys.old)) }
-    ensures accepted { answer result ≡ 0 → Revised y (λ q v. means v ≡ ops.times (means q) (means by.0)) ys.old ys.new }
+    ensures accepted { answer result ≡ 0 → Revised y (λ q v. S.means v ≡ S.ops.times (S.means q) (S.means by.0)) ys.old ys.new }
     ensures refused { (answer result ≢ 0) → ys.new ≡ ys.old }
 {
     revise(Scaled { by }, y, ys)
@@ -166,7 +166,7 @@ pub fn mul_assign<S: Scalar>(by: Scale<S>, y: Column, ys: &mut [S]) -> Result<()
 /// y becomes y / by: each entry is divided, so 49 by 49 is 1.
 pub fn div_assign<S: Ordered>(by: Scale<S>, y: Column, ys: &mut [S]) -> Result<(), Refusal>
     ensures verdict { answer result ≡ first_of (column_tests y (length ys.old)) }
-    ensures accepted { answer result ≡ 0 → Revised y (λ q v. means v ≡ order.over (means q) (means by.0)) ys.old ys.new }
+    ensures accepted { answer result ≡ 0 → Revised y (λ q v. S.means v ≡ S.order.over (S.means q) (S.means by.0)) ys.old ys.new }
     ensures refused { (answer result ≢ 0) → ys.new ≡ ys.old }
 {
     revise(Divided { by }, y, ys)

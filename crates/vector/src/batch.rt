@@ -59,7 +59,7 @@ fn axpy_part<S: Scalar>(
     requires source { from + rows ≤ length xs.now }
     requires target { to + rows ≤ length ys.old }
     requires few { rows ≤ 65536 }
-    ensures { RunChanged to rows (λ i v. (d : S) → means v ≡ blend ops (means a.0) (means (slice_index_or xs.now (from + i) d)) (means b.0) (means (slice_index_or ys.old (to + i) d))) ys.old ys.new }
+    ensures { RunChanged to rows (λ i v. (d : S) → S.means v ≡ blend S.ops (S.means a.0) (S.means (slice_index_or xs.now (from + i) d)) (S.means b.0) (S.means (slice_index_or ys.old (to + i) d))) ys.old ys.new }
 {
     let lane = Column::vector(rows, 1);
     // The shapes are lawful, so it is accepted.
@@ -83,7 +83,7 @@ fn batched_lanes<S: Scalar>(
     ys: &mut [S],
 )
     requires { BatchedLawful factors (length fs.now) x (length xs.now) y (length ys.old) }
-    ensures { Changed y.of (InColumn y.col) (batched means ops factors fs.now x xs.now (means b.0) y ys.old) ys.old ys.new }
+    ensures { Changed y.of (InColumn y.col) (batched S.means S.ops factors fs.now x xs.now (S.means b.0) y ys.old) ys.old ys.new }
 {
     for lane in 0..y.of.lanes {
         let a = fs[factors.start(lane)];
@@ -104,7 +104,7 @@ pub fn batched_axpy<S: Scalar>(
     ys: &mut [S],
 ) -> Result<(), Refusal>
     ensures verdict { answer result ≡ first_of (batched_tests factors (length fs.now) x (length xs.now) y (length ys.old)) }
-    ensures accepted { answer result ≡ 0 → Changed y.of (InColumn y.col) (batched means ops factors fs.now x xs.now (means b.0) y ys.old) ys.old ys.new }
+    ensures accepted { answer result ≡ 0 → Changed y.of (InColumn y.col) (batched S.means S.ops factors fs.now x xs.now (S.means b.0) y ys.old) ys.old ys.new }
     ensures refused { (answer result ≢ 0) → ys.new ≡ ys.old }
 {
     check_batched(factors, fs.len(), x, xs.len(), y, ys.len())?;

@@ -42,7 +42,7 @@ pub fn axpy<S: Scalar>(
     ys: &mut [S],
 ) -> Result<(), Refusal>
     ensures verdict { answer result ≡ first_of (pair_tests x (length xs.now) y (length ys.old)) }
-    ensures accepted { answer result ≡ 0 → Entrywise x xs.now y (λ p q v. means v ≡ blend ops (means a.0) (means p) (means b.0) (means q)) ys.old ys.new }
+    ensures accepted { answer result ≡ 0 → Entrywise x xs.now y (λ p q v. S.means v ≡ blend S.ops (S.means a.0) (S.means p) (S.means b.0) (S.means q)) ys.old ys.new }
     ensures refused { (answer result ≢ 0) → ys.new ≡ ys.old }
 {
     zip(Blend { a, b }, x, xs, y, ys)

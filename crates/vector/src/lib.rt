@@ -1,6 +1,7 @@
 //! Calls on vectors and on columns of tables, over any scalar. Each call is the elementwise
 //! mechanism with a rule of its own; every source broadcasts, and a refusal writes nothing.
 #![tactic(auto)]
+
 pub mod arithmetic;
 pub mod batch;
 pub mod combine;

@@ -15,7 +15,7 @@ add_part-requires g c =
 
 pub returns : goal.returns
 returns g c =
-    let s = g.row.S-Scalar in
+    let s = g.S.Scalar in
     let v = c.args.v in
     let from = c.start.ensures (length c.args.xs.now) (record { fits = c.requires.entries; within = c.requires.column }) c.requires.lane in
     c.add_part.ensures

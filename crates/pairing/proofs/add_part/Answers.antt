@@ -13,7 +13,7 @@ add_products-requires g c =
 
 pub returns : goal.returns
 returns g c =
-    let s = g.row.S-Scalar in
+    let s = g.S.Scalar in
     let n = c.args.rows in
     c.add_products.ensures ∙ ap (sum_from s.ops (s.means c.args.sum) _) (length_part c.args.xs.now c.args.from n c.requires.entries)
     ∙ sum_same s.ops (s.means c.args.sum) _ _ n

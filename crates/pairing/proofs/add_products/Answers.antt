@@ -6,7 +6,7 @@ use Rattle.pairing.proofs.add_products.Goals as goal
 
 pub loop-i-preserved : goal.loop-i-preserved
 loop-i-preserved g c =
-    let s = g.row.S-Scalar in
+    let s = g.S.Scalar in
     let i = c.loop-i.i in
     let x = at_read s.means s.ops c.args.xs.now i c.index-xs-i.result (omega arith) c.index-xs-i.is in
     let y = at_read s.means s.ops c.args.ys.now i c.index-ys-i.result (omega arith) c.index-ys-i.is in

@@ -7,7 +7,7 @@ use Rattle.pairing.proofs.pair_lanes.Goals as goal
 
 pub loop-lane-preserved : goal.loop-lane-preserved
 loop-lane-preserved g c =
-    let s = g.row.S-Scalar in
+    let s = g.S.Scalar in
     let a = c.args in
     let k = c.loop-lane.lane in
     let old = c.loop-lane.sums in

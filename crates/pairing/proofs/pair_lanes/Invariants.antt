@@ -6,5 +6,5 @@ use Rattle.pairing.proofs.pair_lanes.Given as goal
 
 abbrev pub invariant-loop-lane : goal.invariant-loop-lane
 invariant-loop-lane g l =
-    let s = g.row.S-Scalar in
+    let s = g.S.Scalar in
     (b : ℕ) → b < l.lane → at s.means s.ops l.sums b ≡ lane_pairing s.means s.ops l.t (memory l.ds l.us l.vs) (memory l.es l.ps l.qs) b

@@ -6,7 +6,7 @@ use Rattle.pairing.proofs.pair_table.Goals as goal
 
 pub loop-j-preserved : goal.loop-j-preserved
 loop-j-preserved g c =
-    let s = g.row.S-Scalar in
+    let s = g.S.Scalar in
     let t = c.args.t in
     let j = c.loop-j.j in
     let f = λ (j i : ℕ). s.ops.times (at s.means s.ops c.args.ds.now (cell t c.args.lane j i)) (at s.means s.ops c.args.es.now (cell t c.args.lane j i)) in

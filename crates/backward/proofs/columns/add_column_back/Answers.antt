@@ -6,7 +6,7 @@ use Rattle.backward.proofs.columns.add_column_back.Goals as goal
 
 pub returns : goal.returns
 returns g c =
-    let s = g.row.S-Scalar in
+    let s = g.S.Scalar in
     let t = c.args.t in
     let es = c.args.es.now in
     let column = column_of t c.args.j in

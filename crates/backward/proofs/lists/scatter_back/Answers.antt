@@ -5,7 +5,7 @@ use Rattle.backward.proofs.lists.scatter_back.Goals as goal
 
 pub returns : goal.returns
 returns g c =
-    let s = g.row.S-Scalar in
+    let s = g.S.Scalar in
     let call = c.scatter_transpose in
     let both = scattered s.means s.ops _ (vector_of c.args.t) c.args.list.now _ c.args.ps.now c.args.qs.now c.vector-v.ensures c.requires.first c.requires.second c.requires.long c.requires.inside call.ensures.verdict
     call.new.ps call.new.qs call.auto.ps call.auto.qs call.ensures.accepted in

@@ -6,39 +6,39 @@ use Rattle.backward.proofs.step.back_accepted.Goals as goal
 
 pub overflow_add-given : goal.overflow_add-given
 overflow_add-given g c =
-    let h = (numbers_in g.row.S-Scalar.means c.args.t.rows c.args.t.cols c.args.x c.args.numbers.now c.args.indices.now c.requires.passed).0 in
+    let h = (numbers_in g.S.Scalar.means c.args.t.rows c.args.t.cols c.args.x c.args.numbers.now c.args.indices.now c.requires.passed).0 in
     search rules
 
-pub offset-bounds-numbers-from : goal.offset-bounds-numbers-from
-offset-bounds-numbers-from g c =
-    let h = (numbers_in g.row.S-Scalar.means c.args.t.rows c.args.t.cols c.args.x c.args.numbers.now c.args.indices.now c.requires.passed).0 in
+pub offset_bounds-numbers-from : goal.offset_bounds-numbers-from
+offset_bounds-numbers-from g c =
+    let h = (numbers_in g.S.Scalar.means c.args.t.rows c.args.t.cols c.args.x c.args.numbers.now c.args.indices.now c.requires.passed).0 in
     omega arith
 
 pub slice-bounds-given-end : goal.slice-bounds-given-end
 slice-bounds-given-end g c =
-    let h = (numbers_in g.row.S-Scalar.means c.args.t.rows c.args.t.cols c.args.x c.args.numbers.now c.args.indices.now c.requires.passed).0 in
+    let h = (numbers_in g.S.Scalar.means c.args.t.rows c.args.t.cols c.args.x c.args.numbers.now c.args.indices.now c.requires.passed).0 in
     search rules
 
 pub back_kind-requires : goal.back_kind-requires
 back_kind-requires g c = record {
   room = c.requires.room;
   sum = c.requires.sum;
-  allowed = allowed_listed g.row.S-Scalar.means c.args.t.rows c.args.t.cols c.args.x c.args.numbers.now c.args.indices.now c.requires.passed (sym c.if-reads_list.ensures);
+  allowed = allowed_listed g.S.Scalar.means c.args.t.rows c.args.t.cols c.args.x c.args.numbers.now c.args.indices.now c.requires.passed (sym c.if-reads_list.ensures);
 }
 
 pub back_kind-requires-else-reads_list : goal.back_kind-requires-else-reads_list
 back_kind-requires-else-reads_list g c = record {
   room = c.requires.room;
   sum = c.requires.sum;
-  allowed = allowed_unlisted g.row.S-Scalar.means c.args.t.rows c.args.t.cols c.args.x c.args.numbers.now c.args.indices.now c.requires.passed _ (sym c.if-reads_list.ensures);
+  allowed = allowed_unlisted g.S.Scalar.means c.args.t.rows c.args.t.cols c.args.x c.args.numbers.now c.args.indices.now c.requires.passed _ (sym c.if-reads_list.ensures);
 }
 
 pub returns-then-reads_list : goal.returns-then-reads_list
 returns-then-reads_list g c =
-    carried_listed g.row.S-Scalar.means g.row.S-Scalar.ops c.args.t (weights c.args.es.now c.args.ps.now c.args.qs.now) (weights c.back_kind.new.es c.back_kind.new.ps c.back_kind.new.qs)
+    carried_listed g.S.Scalar.means g.S.Scalar.ops c.args.t (weights c.args.es.now c.args.ps.now c.args.qs.now) (weights c.back_kind.new.es c.back_kind.new.ps c.back_kind.new.qs)
     c.args.x c.args.numbers.now c.args.indices.now c.requires.passed (sym c.if-reads_list.ensures) c.back_kind.ensures
 
 pub returns-else-reads_list : goal.returns-else-reads_list
 returns-else-reads_list g c =
-    carried_unlisted g.row.S-Scalar.means g.row.S-Scalar.ops c.args.t (weights c.args.es.now c.args.ps.now c.args.qs.now) (weights c.back_kind-else-reads_list.new.es c.back_kind-else-reads_list.new.ps c.back_kind-else-reads_list.new.qs)
+    carried_unlisted g.S.Scalar.means g.S.Scalar.ops c.args.t (weights c.args.es.now c.args.ps.now c.args.qs.now) (weights c.back_kind-else-reads_list.new.es c.back_kind-else-reads_list.new.ps c.back_kind-else-reads_list.new.qs)
     c.args.x c.args.numbers.now c.args.indices.now c.requires.passed _ (sym c.if-reads_list.ensures) c.back_kind-else-reads_list.ensures

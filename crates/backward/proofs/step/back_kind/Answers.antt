@@ -13,7 +13,7 @@ update_back-requires g c =
 
 pub returns-in-Update : goal.returns-in-Update
 returns-in-Update g c =
-    back_as g.row.S-Scalar.means g.row.S-Scalar.ops c.args.t (weights c.args.es.now c.args.ps.now c.args.qs.now) (weights c.update_back.new.es c.update_back.new.ps c.args.qs.now) c.args.kind (Update c.in-Update.order) _ c.args.list.now c.in-Update.is
+    back_as g.S.Scalar.means g.S.Scalar.ops c.args.t (weights c.args.es.now c.args.ps.now c.args.qs.now) (weights c.update_back.new.es c.update_back.new.ps c.args.qs.now) c.args.kind (Update c.in-Update.order) _ c.args.list.now c.in-Update.is
     (c.update_back.ensures c.args.qs.now)
 
 pub multiply_back-requires : goal.multiply_back-requires
@@ -23,7 +23,7 @@ multiply_back-requires g c =
 
 pub returns-in-Cols : goal.returns-in-Cols
 returns-in-Cols g c =
-    back_as g.row.S-Scalar.means g.row.S-Scalar.ops c.args.t (weights c.args.es.now c.args.ps.now c.args.qs.now) (weights c.multiply_back.new.es c.args.ps.now c.args.qs.now) c.args.kind (Cols c.in-Cols.count) _ c.args.list.now c.in-Cols.is
+    back_as g.S.Scalar.means g.S.Scalar.ops c.args.t (weights c.args.es.now c.args.ps.now c.args.qs.now) (weights c.multiply_back.new.es c.args.ps.now c.args.qs.now) c.args.kind (Cols c.in-Cols.count) _ c.args.list.now c.in-Cols.is
     (c.multiply_back.ensures c.args.ps.now c.args.qs.now)
 
 pub sum_columns_back-requires : goal.sum_columns_back-requires
@@ -34,7 +34,7 @@ sum_columns_back-requires g c =
 
 pub returns-in-SumCol : goal.returns-in-SumCol
 returns-in-SumCol g c =
-    back_as g.row.S-Scalar.means g.row.S-Scalar.ops c.args.t (weights c.args.es.now c.args.ps.now c.args.qs.now) (weights c.sum_columns_back.new.es c.sum_columns_back.new.ps c.args.qs.now) c.args.kind (SumCol c.in-SumCol.start c.in-SumCol.end) _ c.args.list.now c.in-SumCol.is
+    back_as g.S.Scalar.means g.S.Scalar.ops c.args.t (weights c.args.es.now c.args.ps.now c.args.qs.now) (weights c.sum_columns_back.new.es c.sum_columns_back.new.ps c.args.qs.now) c.args.kind (SumCol c.in-SumCol.start c.in-SumCol.end) _ c.args.list.now c.in-SumCol.is
     (c.sum_columns_back.ensures c.args.qs.now)
 
 pub add_column_back-requires : goal.add_column_back-requires
@@ -44,7 +44,7 @@ add_column_back-requires g c =
 
 pub returns-in-AddCol : goal.returns-in-AddCol
 returns-in-AddCol g c =
-    back_as g.row.S-Scalar.means g.row.S-Scalar.ops c.args.t (weights c.args.es.now c.args.ps.now c.args.qs.now) (weights c.add_column_back.new.es c.args.ps.now c.args.qs.now) c.args.kind (AddCol c.in-AddCol.column) _ c.args.list.now c.in-AddCol.is
+    back_as g.S.Scalar.means g.S.Scalar.ops c.args.t (weights c.args.es.now c.args.ps.now c.args.qs.now) (weights c.add_column_back.new.es c.args.ps.now c.args.qs.now) c.args.kind (AddCol c.in-AddCol.column) _ c.args.list.now c.in-AddCol.is
     (c.add_column_back.ensures c.args.qs.now)
 
 pub set_column_back-requires : goal.set_column_back-requires
@@ -54,7 +54,7 @@ set_column_back-requires g c =
 
 pub returns-in-SetCol : goal.returns-in-SetCol
 returns-in-SetCol g c =
-    back_as g.row.S-Scalar.means g.row.S-Scalar.ops c.args.t (weights c.args.es.now c.args.ps.now c.args.qs.now) (weights c.set_column_back.new.es c.set_column_back.new.ps c.args.qs.now) c.args.kind (SetCol c.in-SetCol.column) _ c.args.list.now c.in-SetCol.is
+    back_as g.S.Scalar.means g.S.Scalar.ops c.args.t (weights c.args.es.now c.args.ps.now c.args.qs.now) (weights c.set_column_back.new.es c.set_column_back.new.ps c.args.qs.now) c.args.kind (SetCol c.in-SetCol.column) _ c.args.list.now c.in-SetCol.is
     (c.set_column_back.ensures c.args.qs.now)
 
 pub axpy_back-requires : goal.axpy_back-requires
@@ -64,7 +64,7 @@ axpy_back-requires g c =
 
 pub returns-in-Axpy : goal.returns-in-Axpy
 returns-in-Axpy g c =
-    back_as g.row.S-Scalar.means g.row.S-Scalar.ops c.args.t (weights c.args.es.now c.args.ps.now c.args.qs.now) (weights c.args.es.now c.axpy_back.new.ps c.axpy_back.new.qs) c.args.kind Axpy _ c.args.list.now c.in-Axpy.is
+    back_as g.S.Scalar.means g.S.Scalar.ops c.args.t (weights c.args.es.now c.args.ps.now c.args.qs.now) (weights c.args.es.now c.axpy_back.new.ps c.axpy_back.new.qs) c.args.kind Axpy _ c.args.list.now c.in-Axpy.is
     (c.axpy_back.ensures c.args.es.now)
 
 pub copy_back-requires : goal.copy_back-requires
@@ -73,7 +73,7 @@ copy_back-requires g c =
 
 pub returns-in-Copy : goal.returns-in-Copy
 returns-in-Copy g c =
-    back_as g.row.S-Scalar.means g.row.S-Scalar.ops c.args.t (weights c.args.es.now c.args.ps.now c.args.qs.now) (weights c.args.es.now c.copy_back.new.ps c.copy_back.new.qs) c.args.kind Copy _ c.args.list.now c.in-Copy.is
+    back_as g.S.Scalar.means g.S.Scalar.ops c.args.t (weights c.args.es.now c.args.ps.now c.args.qs.now) (weights c.args.es.now c.copy_back.new.ps c.copy_back.new.qs) c.args.kind Copy _ c.args.list.now c.in-Copy.is
     (c.copy_back.ensures c.args.es.now)
 
 pub scale_back-requires : goal.scale_back-requires
@@ -83,7 +83,7 @@ scale_back-requires g c =
 
 pub returns-in-Scale : goal.returns-in-Scale
 returns-in-Scale g c =
-    back_as g.row.S-Scalar.means g.row.S-Scalar.ops c.args.t (weights c.args.es.now c.args.ps.now c.args.qs.now) (weights c.args.es.now c.scale_back.new.ps c.args.qs.now) c.args.kind Scale _ c.args.list.now c.in-Scale.is
+    back_as g.S.Scalar.means g.S.Scalar.ops c.args.t (weights c.args.es.now c.args.ps.now c.args.qs.now) (weights c.args.es.now c.scale_back.new.ps c.args.qs.now) c.args.kind Scale _ c.args.list.now c.in-Scale.is
     (c.scale_back.ensures c.args.es.now c.args.qs.now)
 
 pub gather_back-requires : goal.gather_back-requires
@@ -93,7 +93,7 @@ gather_back-requires g c =
 
 pub returns-in-Gather : goal.returns-in-Gather
 returns-in-Gather g c =
-    back_as g.row.S-Scalar.means g.row.S-Scalar.ops c.args.t (weights c.args.es.now c.args.ps.now c.args.qs.now) (weights c.args.es.now c.gather_back.new.ps c.gather_back.new.qs) c.args.kind Gather _ c.args.list.now c.in-Gather.is
+    back_as g.S.Scalar.means g.S.Scalar.ops c.args.t (weights c.args.es.now c.args.ps.now c.args.qs.now) (weights c.args.es.now c.gather_back.new.ps c.gather_back.new.qs) c.args.kind Gather _ c.args.list.now c.in-Gather.is
     (c.gather_back.ensures c.args.es.now)
 
 pub scatter_back-requires : goal.scatter_back-requires
@@ -103,5 +103,5 @@ scatter_back-requires g c =
 
 pub returns-in-Scatter : goal.returns-in-Scatter
 returns-in-Scatter g c =
-    back_as g.row.S-Scalar.means g.row.S-Scalar.ops c.args.t (weights c.args.es.now c.args.ps.now c.args.qs.now) (weights c.args.es.now c.scatter_back.new.ps c.scatter_back.new.qs) c.args.kind Scatter _ c.args.list.now c.in-Scatter.is
+    back_as g.S.Scalar.means g.S.Scalar.ops c.args.t (weights c.args.es.now c.args.ps.now c.args.qs.now) (weights c.args.es.now c.scatter_back.new.ps c.scatter_back.new.qs) c.args.kind Scatter _ c.args.list.now c.in-Scatter.is
     (c.scatter_back.ensures c.args.es.now)

@@ -11,7 +11,7 @@ pub returns-in_err-check_weights : goal.returns-in_err-check_weights
 returns-in_err-check_weights g c =
     let t = c.args.t in
     let before = weights_tests t c.args.table c.args.first c.args.second c.args.sum c.args.work in
-    let after = step_tests t.rows t.cols (step_of g.row.S-Scalar.means c.args.x c.args.numbers.now c.args.indices.now) in
+    let after = step_tests t.rows t.cols (step_of g.S.Scalar.means c.args.x c.args.numbers.now c.args.indices.now) in
     let f = c.in_err-check_weights.field-0.0 in
     let e = c.in_err-check_weights.ensures.verdict in
     let p = err_from_is_err_and c.from-residual.result c.from-residual.ensures.1 in
@@ -24,7 +24,7 @@ returns-in_err-check_weights g c =
 
 pub returns : goal.returns
 returns g c =
-    let o = g.row.S-Scalar in
+    let o = g.S.Scalar in
     let t = c.args.t in
     let before = weights_tests t c.args.table c.args.first c.args.second c.args.sum c.args.work in
     let x = step_of o.means c.args.x c.args.numbers.now c.args.indices.now in

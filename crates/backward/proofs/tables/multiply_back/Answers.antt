@@ -5,7 +5,7 @@ use Rattle.backward.proofs.tables.multiply_back.Goals as goal
 
 pub returns : goal.returns
 returns g c =
-    let s = g.row.S-Scalar in
+    let s = g.S.Scalar in
     let t = c.args.t in
     let es = c.args.es.now in
     let call = c.mul_cols_by_transpose in

@@ -10,7 +10,7 @@ use Rattle.backward.proofs.tables.sum_columns_back.Goals as goal
 
 pub returns : goal.returns
 returns g c =
-    let s = g.row.S-Scalar in
+    let s = g.S.Scalar in
     let t = c.args.t in
     let v = vector_of t in
     let is = c.vector-v.ensures in

@@ -5,7 +5,7 @@ use Rattle.backward.proofs.vectors.copy_back.Goals as goal
 
 pub returns : goal.returns
 returns g c =
-    let s = g.row.S-Scalar in
+    let s = g.S.Scalar in
     let v = vector_of c.args.t in
     let is = c.vector-v.ensures in
     let ps = c.args.ps.now in

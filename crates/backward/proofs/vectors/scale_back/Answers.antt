@@ -7,7 +7,7 @@ use Rattle.backward.proofs.vectors.scale_back.Goals as goal
 
 pub returns : goal.returns
 returns g c =
-    let s = g.row.S-Scalar in
+    let s = g.S.Scalar in
     let v = vector_of c.args.t in
     let ps = c.args.ps.now in
     let a = c.index-numbers-0.result in

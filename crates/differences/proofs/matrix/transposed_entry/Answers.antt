@@ -5,7 +5,7 @@ use Rattle.differences.proofs.matrix.transposed_entry.Goals as goal
 
 pub returns : goal.returns
 returns g c =
-    let o = g.row.S-Scalar.ops in
+    let o = g.S.Scalar.ops in
     c.scalar_of.ensures
     ∙ ap (λ z. signed o (to_z w8 (of_z w8 z))) c.constant.ensures
     ∙ ap (signed o) (sign_held c.args.order c.args.j c.args.l)

@@ -13,7 +13,7 @@ multiply_lane-requires g c = record { law = rw (c.loop-lane.auto.ts, c.loop-lane
 
 pub loop-lane-preserved : goal.loop-lane-preserved
 loop-lane-preserved g c =
-    let s = g.row.S-Scalar in
+    let s = g.S.Scalar in
     let t = c.args.t in
     let m = c.args.m in
     let n = c.loop-lane.lane in

@@ -4,5 +4,5 @@ use Rattle.differences.proofs.multiply.multiply_lanes.Given as goal
 
 abbrev pub invariant-loop-lane : goal.invariant-loop-lane
 invariant-loop-lane g l =
-    let s = g.row.S-Scalar in
+    let s = g.S.Scalar in
     Changed l.t (LanesBand l.lane 0 l.m.size) (meant s.means (cell_multiplied s.means s.ops l.t l.m l.numbers l.initial.ts)) l.initial.ts l.ts

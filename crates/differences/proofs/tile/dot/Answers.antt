@@ -10,7 +10,7 @@ use Rattle.differences.proofs.tile.dot.Goals as goal
 
 pub loop-l-preserved : goal.loop-l-preserved
 loop-l-preserved g c =
-    let s = g.row.S-Scalar in
+    let s = g.S.Scalar in
     let l = c.loop-l.l in
     let b = block_fits l c.args.m.size c.args.height c.loop-l-test.true in
     let x = at_read s.means s.ops c.args.staged.now (l * c.args.height + c.args.r) c.index-staged-l.result (omega arith) c.index-staged-l.is in
@@ -19,7 +19,7 @@ loop-l-preserved g c =
 
 pub returns : goal.returns
 returns g c =
-    let s = g.row.S-Scalar in
+    let s = g.S.Scalar in
     let row = run_row s.means s.ops c.args.staged.now c.args.height c.args.r in
     let m = entry_of s.ops c.args.m (map s.means c.args.numbers.now) in
     let end : c.loop-l.l ≡ c.args.m.size = omega arith in

@@ -20,7 +20,7 @@ loop-row-init g c = changed_none _ _ _ _ (λ b j i h. omega arith)
 
 pub loop-row-preserved : goal.loop-row-preserved
 loop-row-preserved g c =
-    let s = g.row.S-Scalar in
+    let s = g.S.Scalar in
     let t = c.args.t in
     let m = c.args.m in
     let k = m.size in

@@ -6,7 +6,7 @@ use Rattle.differences.proofs.tile.multiply_lane.Given as goal
 
 abbrev pub invariant-loop-row : goal.invariant-loop-row
 invariant-loop-row g l =
-    let s = g.row.S-Scalar in
+    let s = g.S.Scalar in
     Changed l.t (RowsAbove l.lane l.row l.m.size) (meant s.means (cell_multiplied s.means s.ops l.t l.m l.numbers l.initial.ts)) l.initial.ts l.ts
 
 abbrev pub decreases-loop-row : goal.decreases-loop-row

@@ -15,7 +15,7 @@ write_tile-requires g c = record { fits = c.requires.law.fits; tile = c.requires
 
 pub returns : goal.returns
 returns g c =
-    let s = g.row.S-Scalar in
+    let s = g.S.Scalar in
     let t = c.args.t in
     let tile = c.args.tile in
     let k = c.args.m.size in

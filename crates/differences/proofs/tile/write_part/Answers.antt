@@ -5,7 +5,7 @@ use Rattle.differences.proofs.tile.write_part.Goals as goal
 
 pub returns : goal.returns
 returns g c =
-    let s = g.row.S-Scalar in
+    let s = g.S.Scalar in
     let ts = c.args.ts.now in
     let part = length_part ts c.args.to c.args.height c.requires.target in
     part_changed c.args.to c.args.height _ ts c.write_run.new.y c.requires.target (c.write_run.auto.y ∙ part)

@@ -13,7 +13,7 @@ dot-requires g c =
 
 pub loop-i-preserved : goal.loop-i-preserved
 loop-i-preserved g c =
-    let s = g.row.S-Scalar in
+    let s = g.S.Scalar in
     filled_more _ _ _ _ _ c.loop-i.invariant (omega arith)
     (c.dot.ensures
     ∙ ap (λ n. staged_product s.means s.ops c.args.staged.now n c.args.m c.args.numbers.now c.args.j c.loop-i.i) c.loop-i.auto.y)

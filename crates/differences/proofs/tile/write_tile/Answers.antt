@@ -16,7 +16,7 @@ loop-j-init g c = changed_none _ _ _ _ (λ b j i h. omega arith)
 
 pub loop-j-preserved : goal.loop-j-preserved
 loop-j-preserved g c =
-    let s = g.row.S-Scalar in
+    let s = g.S.Scalar in
     let t = c.args.t in
     let tile = c.args.tile in
     let n = c.loop-j.j in

@@ -5,5 +5,5 @@ use Rattle.differences.proofs.tile.write_tile.Given as goal
 
 abbrev pub invariant-loop-j : goal.invariant-loop-j
 invariant-loop-j g l =
-    let s = g.row.S-Scalar in
+    let s = g.S.Scalar in
     Changed l.t (InTile l.tile l.j) (λ b j i v. s.means v ≡ staged_product s.means s.ops l.staged l.tile.height l.m l.numbers j (i - l.tile.row)) l.initial.ts l.ts

@@ -12,7 +12,7 @@ use Rattle.differences.proofs.total.sum_columns.Goals as goal
 
 pub returns : goal.returns
 returns g c =
-    let s = g.row.S-Scalar in
+    let s = g.S.Scalar in
     let t = c.args.t in
     let d = c.args.d in
     let k = c.args.order in

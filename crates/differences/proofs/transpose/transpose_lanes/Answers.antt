@@ -7,7 +7,7 @@ use Rattle.differences.proofs.transpose.transpose_lanes.Goals as goal
 
 pub returns : goal.returns
 returns g c =
-    let s = g.row.S-Scalar in
+    let s = g.S.Scalar in
     let m = g.met.S.Scalar in
     let k = c.args.order in
     let row = row_of s.means s.ops c.args.t c.args.ts.now in

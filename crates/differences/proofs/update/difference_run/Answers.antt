@@ -8,7 +8,7 @@ loop-i-init g c = run_none _ _ _
 
 pub loop-i-preserved : goal.loop-i-preserved
 loop-i-preserved g c =
-    let s = g.row.S-Scalar in
+    let s = g.S.Scalar in
     let i = c.loop-i.i in
     let new = at_read s.means s.ops c.args.d.now (c.args.from + i) c.index-d-from.result (omega arith) c.index-d-from.is in
     let old = run_read s.means s.ops c.args.to i _ c.args.ts.now c.loop-i.ts (c.args.before + i) c.index-ts-before.result c.loop-i.auto.ts (omega arith) c.loop-i.invariant (inl (omega arith)) c.index-ts-before.is in

@@ -22,7 +22,7 @@ gain_run-requires g c =
 
 pub returns : goal.returns
 returns g c = λ n m old before next less len.
-    let s = g.row.S-Scalar in
+    let s = g.S.Scalar in
     let t = c.args.t in
     let lane = c.args.lane in
     let j = c.args.j in

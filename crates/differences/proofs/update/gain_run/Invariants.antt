@@ -5,5 +5,5 @@ use Rattle.differences.proofs.update.gain_run.Given as goal
 
 abbrev pub invariant-loop-i : goal.invariant-loop-i
 invariant-loop-i g l =
-    let s = g.row.S-Scalar in
+    let s = g.S.Scalar in
     RunChanged l.to l.i (λ k v. s.means v ≡ s.ops.plus (at s.means s.ops l.initial.ts (l.to + k)) (at s.means s.ops l.initial.ts (l.from + k))) l.initial.ts l.ts

@@ -30,7 +30,7 @@ accumulate_lane-requires g c = record { fits = rw c.difference_run.auto.ts c.req
 
 pub returns : goal.returns
 returns g c =
-    let s = g.row.S-Scalar in
+    let s = g.S.Scalar in
     let t = c.args.t in
     let k = c.args.order in
     let lane = c.args.lane in

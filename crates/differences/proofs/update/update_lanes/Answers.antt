@@ -19,7 +19,7 @@ update_lane-requires g c =
 
 pub loop-lane-preserved : goal.loop-lane-preserved
 loop-lane-preserved g c =
-    let s = g.row.S-Scalar in
+    let s = g.S.Scalar in
     let t = c.args.t in
     let k = c.args.order in
     let d = c.args.d in

@@ -5,5 +5,5 @@ use Rattle.differences.proofs.update.update_lanes.Given as goal
 
 abbrev pub invariant-loop-lane : goal.invariant-loop-lane
 invariant-loop-lane g l =
-    let s = g.row.S-Scalar in
+    let s = g.S.Scalar in
     Changed l.t (LanesBand l.lane 0 (l.order + 3)) (meant s.means (cell_updated s.means s.ops l.t l.order l.d l.ds l.initial.ts)) l.initial.ts l.ts

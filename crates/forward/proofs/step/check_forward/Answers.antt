@@ -12,7 +12,7 @@ pub returns-in_err-check_memory : goal.returns-in_err-check_memory
 returns-in_err-check_memory g c =
     let t = c.args.t in
     let before = memory_tests t c.args.table c.args.first c.args.second c.args.work in
-    let after = step_tests t.rows t.cols (step_of g.row.S-Scalar.means c.args.x c.args.numbers.now c.args.indices.now) in
+    let after = step_tests t.rows t.cols (step_of g.S.Scalar.means c.args.x c.args.numbers.now c.args.indices.now) in
     let f = c.in_err-check_memory.field-0.0 in
     let e = c.in_err-check_memory.ensures.verdict in
     let p = err_from_is_err_and c.from-residual.result c.from-residual.ensures.1 in
@@ -25,7 +25,7 @@ returns-in_err-check_memory g c =
 
 pub returns : goal.returns
 returns g c =
-    let o = g.row.S-Scalar in
+    let o = g.S.Scalar in
     let t = c.args.t in
     let before = memory_tests t c.args.table c.args.first c.args.second c.args.work in
     let x = step_of o.means c.args.x c.args.numbers.now c.args.indices.now in

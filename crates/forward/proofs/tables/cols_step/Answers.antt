@@ -6,7 +6,7 @@ use Rattle.forward.proofs.tables.cols_step.Goals as goal
 
 pub returns : goal.returns
 returns g c = λ us vs b l.
-    let s = g.row.S-Scalar in
+    let s = g.S.Scalar in
     let t = c.args.t in
     let n = c.args.count in
     let ds = c.args.ds.now in

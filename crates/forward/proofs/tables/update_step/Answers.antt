@@ -9,7 +9,7 @@ use Rattle.forward.proofs.tables.update_step.Goals as goal
 
 pub returns : goal.returns
 returns g c = λ vs b l.
-    let s = g.row.S-Scalar in
+    let s = g.S.Scalar in
     let t = c.args.t in
     let n = c.args.order in
     let ds = c.args.ds.now in

@@ -6,7 +6,7 @@ use Rattle.forward.proofs.vectors.add_col_step.Goals as goal
 
 pub returns : goal.returns
 returns g c = λ vs b l.
-    let s = g.row.S-Scalar in
+    let s = g.S.Scalar in
     let t = c.args.t in
     let ds = c.args.ds.now in
     let us = c.args.us.now in

@@ -5,7 +5,7 @@ use Rattle.forward.proofs.vectors.copy_step.Goals as goal
 
 pub returns : goal.returns
 returns g c = λ ds b l.
-    let s = g.row.S-Scalar in
+    let s = g.S.Scalar in
     let t = c.args.t in
     let us = c.args.us.now in
     let vs = c.args.vs.now in

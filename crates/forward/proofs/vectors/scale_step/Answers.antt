@@ -7,7 +7,7 @@ use Rattle.forward.proofs.vectors.scale_step.Goals as goal
 
 pub returns : goal.returns
 returns g c = λ ds vs b l.
-    let s = g.row.S-Scalar in
+    let s = g.S.Scalar in
     let t = c.args.t in
     let us = c.args.us.now in
     let ns = c.args.numbers.now in

@@ -16,7 +16,7 @@ use Rattle.forward.proofs.vectors.sum_col_step.Goals as goal
 
 pub returns : goal.returns
 returns g c = λ vs b l.
-    let s = g.row.S-Scalar in
+    let s = g.S.Scalar in
     let t = c.args.t in
     let start = c.args.start in
     let end = c.args.end in

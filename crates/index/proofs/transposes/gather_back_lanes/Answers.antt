@@ -23,7 +23,7 @@ gather_back_part-requires g c =
 
 pub loop-lane-preserved : goal.loop-lane-preserved
 loop-lane-preserved g c =
-    let s = g.row.S-Scalar in
+    let s = g.S.Scalar in
     let p = c.args.p in
     let q = c.args.q in
     let ps = c.args.ps.now in

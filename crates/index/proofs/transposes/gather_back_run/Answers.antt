@@ -8,7 +8,7 @@ loop-i-init g c = gathering_none _ _ _ _ _
 
 pub loop-i-preserved : goal.loop-i-preserved
 loop-i-preserved g c =
-    let s = g.row.S-Scalar in
+    let s = g.S.Scalar in
     let list = c.args.list.now in
     let i = c.loop-i.i in
     let within : get_or list i 0 < length c.args.q.now = c.requires.inside i c.loop-i-test.true in

@@ -12,7 +12,7 @@ scatter_back_run-requires g c =
 
 pub returns : goal.returns
 returns g c =
-    let s = g.row.S-Scalar in
+    let s = g.S.Scalar in
     let ps = c.args.ps.now in
     let qs = c.args.qs.now in
     let from = c.args.from in

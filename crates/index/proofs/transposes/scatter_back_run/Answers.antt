@@ -9,7 +9,7 @@ loop-i-init g c = scattering_none _ _ _ _ _ _ (omega arith)
 
 pub loop-i-preserved : goal.loop-i-preserved
 loop-i-preserved g c =
-    let s = g.row.S-Scalar in
+    let s = g.S.Scalar in
     let list = c.args.list.now in
     let n = c.loop-i.i in
     let m = n - 1 in
@@ -24,7 +24,7 @@ loop-i-preserved g c =
 
 pub returns : goal.returns
 returns g c =
-    let s = g.row.S-Scalar in
+    let s = g.S.Scalar in
     let list = c.args.list.now in
     let end : c.loop-i.i ≡ 0 = omega arith in
     record {

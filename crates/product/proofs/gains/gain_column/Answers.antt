@@ -5,7 +5,7 @@ use Rattle.product.proofs.gains.gain_column.Goals as goal
 
 pub returns : goal.returns
 returns g c =
-    let s = g.row.S-Scalar in
+    let s = g.S.Scalar in
     let y = c.args.y.now in
     let to = c.args.to in
     let rows = length c.args.p.now in

@@ -19,7 +19,7 @@ loop-lane-init g c = lanes_none _ _ _ _ _
 
 pub loop-lane-preserved : goal.loop-lane-preserved
 loop-lane-preserved g c =
-    let s = g.row.S-Scalar in
+    let s = g.S.Scalar in
     let ts = c.args.ts.now in
     let xs = c.args.xs.now in
     let old = c.args.ys.now in

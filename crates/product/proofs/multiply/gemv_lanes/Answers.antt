@@ -8,7 +8,7 @@ use Rattle.product.proofs.multiply.gemv_lanes.Goals as goal
 
 pub returns : goal.returns
 returns g c =
-    let s = g.row.S-Scalar in
+    let s = g.S.Scalar in
     let m = g.met.S.Scalar in
     let x = broadcast s.means s.ops c.args.x c.args.xs.now c.args.y.of.lanes in
     let done = subst (λ (q : Band). Applied s.means s.ops (summed s.ops) (s.means c.args.a.0) q.of c.args.ts.now q.first q.count x (s.means c.args.b.0) c.args.y c.args.ys.now c.band_lanes.new.ys)

@@ -23,7 +23,7 @@ loop-lane-init g c = lanes_none _ _ _ _ _
 
 pub loop-lane-preserved : goal.loop-lane-preserved
 loop-lane-preserved g c =
-    let s = g.row.S-Scalar in
+    let s = g.S.Scalar in
     let t = c.args.t in
     let p = c.args.p in
     let ps = c.args.ps.now in

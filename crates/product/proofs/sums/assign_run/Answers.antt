@@ -8,7 +8,7 @@ loop-i-init g c = filled_none _ _
 
 pub loop-i-preserved : goal.loop-i-preserved
 loop-i-preserved g c =
-    let s = g.row.S-Scalar in
+    let s = g.S.Scalar in
     let d = at_read s.means s.ops c.args.d.now c.loop-i.i c.index-d-i.result (omega arith) c.index-d-i.is in
     filled_more _ _ _ _ _ c.loop-i.invariant (omega arith) (cc)
 

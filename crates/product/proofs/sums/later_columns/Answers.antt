@@ -16,11 +16,11 @@ add_column-requires g c =
     rw c.loop-l.auto.y (omega arith)
 
 pub loop-l-init : goal.loop-l-init
-loop-l-init g c = λ i d h. sym (at_get g.row.S-Scalar.means g.row.S-Scalar.ops c.args.y.now i d h)
+loop-l-init g c = λ i d h. sym (at_get g.S.Scalar.means g.S.Scalar.ops c.args.y.now i d h)
 
 pub loop-l-preserved : goal.loop-l-preserved
 loop-l-preserved g c =
-    let s = g.row.S-Scalar in
+    let s = g.S.Scalar in
     later_more s.means s.ops (s.means c.args.a.0) c.args.d.now c.args.x.now c.args.y.now c.loop-l.y c.add_column.new.y c.loop-l.l c.index-x_l.result
     c.loop-l.auto.y c.add_column.auto.y c.loop-l.auto.l c.loop-l-test.true c.index-x_l.is c.loop-l.invariant c.add_column.ensures
 

@@ -6,5 +6,5 @@ use Rattle.product.proofs.sums.later_columns.Given as goal
 
 abbrev pub invariant-loop-l : goal.invariant-loop-l
 invariant-loop-l g l =
-    let s = g.row.S-Scalar in
+    let s = g.S.Scalar in
     Run s.means (λ i. sum_from s.ops (at s.means s.ops l.initial.y i) (later s.means s.ops (s.means l.a.0) l.d l.x (length l.initial.y) i) (l.l - 1)) l.y

@@ -8,7 +8,7 @@ loop-i-init g c = filled_none _ _
 
 pub loop-i-preserved : goal.loop-i-preserved
 loop-i-preserved g c =
-    let s = g.row.S-Scalar in
+    let s = g.S.Scalar in
     let y = unwritten s.means s.ops _ c.args.y.now c.loop-i.y c.loop-i.i c.index-y-i.result c.loop-i.auto.y (omega arith) c.loop-i.invariant c.index-y-i.is in
     filled_more _ _ _ _ _ c.loop-i.invariant (omega arith) (cc)
 

@@ -15,6 +15,6 @@ first_column-requires g c = length-take-le _ _ (first_fits _ _ _ (nonempty _ c.i
 
 pub returns-else-is_empty : goal.returns-else-is_empty
 returns-else-is_empty g c =
-    let s = g.row.S-Scalar in
+    let s = g.S.Scalar in
     columns_summed s.means s.ops (s.means c.args.a.0) c.args.d.now c.args.x.now (s.means c.args.b.0) c.args.y.now c.first_column.new.y c.later_columns.new.y c.index-x-0.result
     c.first_column.auto.y c.later_columns.auto.y (nonempty _ c.if-is_empty.ensures) c.requires c.index-x-0.is c.first_column.ensures c.later_columns.ensures

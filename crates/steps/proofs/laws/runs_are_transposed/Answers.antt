@@ -4,4 +4,4 @@ use Rattle.steps.proofs.Transposes.{runs_transposed}
 use Rattle.steps.proofs.laws.runs_are_transposed.Goals as goal
 
 pub returns : goal.returns
-returns g c = λ e. let m = g.met.S.Scalar in let r : Ring g.row.S-Scalar.ops = search rules in runs_transposed r
+returns g c = λ e. let m = g.met.S.Scalar in let r : Ring g.S.Scalar.ops = search rules in runs_transposed r

@@ -6,7 +6,7 @@ use Rattle.sweep.proofs.script.laws_of_runs.Goals as goal
 
 pub returns : goal.returns
 returns g c =
-    let s = g.row.S-Scalar in
+    let s = g.S.Scalar in
     let t = c.args.t in
     record {
       transposed = λ e. let m = g.met.S.Scalar in let r : Ring s.ops = search rules in chains_transposed s.ops t.rows t.cols t.lanes (lane_of s.means s.ops t) r;

@@ -12,7 +12,7 @@ use Rattle.sweep.proofs.script.run_back.Goals as goal
 
 pub loop-turned-init : goal.loop-turned-init
 loop-turned-init g c =
-    let s = g.row.S-Scalar in
+    let s = g.S.Scalar in
     let a = c.args in
     let t = a.turned.now.shape in
     let w = weights a.es.now a.ps.now a.qs.now in
@@ -24,7 +24,7 @@ loop-turned-init g c =
 
 pub loop-turned-preserved : goal.loop-turned-preserved
 loop-turned-preserved g c =
-    let s = g.row.S-Scalar in
+    let s = g.S.Scalar in
     let a = c.args in
     let l = c.loop-turned in
     let room : first_of (weights_tests l.turned.shape (length l.es) (length l.ps) (length l.qs) (length l.ws) (length l.work)) ≡ 0 =
@@ -50,7 +50,7 @@ loop-turned-smaller g c =
 
 pub returns : goal.returns
 returns g c =
-    let s = g.row.S-Scalar in
+    let s = g.S.Scalar in
     let a = c.args in
     let l = c.loop-turned in
     let t = a.turned.now.shape in

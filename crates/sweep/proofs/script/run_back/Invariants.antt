@@ -7,7 +7,7 @@ use Rattle.sweep.proofs.script.run_back.Given as goal
 
 abbrev pub invariant-loop-turned : goal.invariant-loop-turned
 invariant-loop-turned g l =
-    let s = g.row.S-Scalar in
+    let s = g.S.Scalar in
     let t = l.initial.turned.shape in
     (l.turned.left ≤ length l.script) × (l.turned.shape ≡ t)
     × ((ks : List ℕ) × RunBack s.ops t.rows t.cols t.lanes (lane_of s.means s.ops t) (steps_of s.means (drop l.turned.left l.script) l.numbers l.indices) ks

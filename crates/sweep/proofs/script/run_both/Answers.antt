@@ -9,7 +9,7 @@ use Rattle.sweep.proofs.script.run_both.Goals as goal
 
 pub returns : goal.returns
 returns g c =
-    let s = g.row.S-Scalar in
+    let s = g.S.Scalar in
     let a = c.args in
     let t = a.t in
     let xs = steps_of s.means a.script.now a.numbers.now a.indices.now in

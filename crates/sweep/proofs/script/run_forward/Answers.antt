@@ -11,7 +11,7 @@ use Rattle.sweep.proofs.script.run_forward.Goals as goal
 
 pub loop-i-preserved : goal.loop-i-preserved
 loop-i-preserved g c =
-    let s = g.row.S-Scalar in
+    let s = g.S.Scalar in
     let a = c.args in
     let l = c.loop-i in
     let room : first_of (memory_tests l.sweep.shape (length l.ds) (length l.us) (length l.vs) (length l.work)) ≡ 0 =
@@ -28,7 +28,7 @@ loop-i-preserved g c =
 
 pub returns : goal.returns
 returns g c =
-    let s = g.row.S-Scalar in
+    let s = g.S.Scalar in
     let a = c.args in
     let l = c.loop-i in
     let t = a.sweep.now.shape in

@@ -7,7 +7,7 @@ use Rattle.sweep.proofs.script.run_forward.Given as goal
 
 abbrev pub invariant-loop-i : goal.invariant-loop-i
 invariant-loop-i g l =
-    let s = g.row.S-Scalar in
+    let s = g.S.Scalar in
     let t = l.initial.sweep.shape in
     (l.sweep.taken ≡ l.i) × (l.sweep.shape ≡ t)
     × RunForward s.ops t.rows t.cols t.lanes (lane_of s.means s.ops t) (steps_of s.means (take l.i l.script) l.numbers l.indices) (take l.i l.answers)

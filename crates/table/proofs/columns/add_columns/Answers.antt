@@ -3,5 +3,5 @@ use Rattle.table.proofs.columns.add_columns.Goals as goal
 
 pub returns : goal.returns
 returns g c =
-    let s = g.row.S-Scalar in
+    let s = g.S.Scalar in
     columns_added s.means s.ops c.args.t c.args.ts.now c.args.v c.args.vs.now c.add_assign.new.ys c.vector.result _ c.requires c.vector.ensures c.add_assign.ensures.verdict c.add_assign.ensures.accepted

@@ -6,7 +6,7 @@ use Rattle.table.proofs.combine.scale_add_cells.Goals as goal
 
 pub returns : goal.returns
 returns g c =
-    let s = g.row.S-Scalar in
+    let s = g.S.Scalar in
     let x = c.args.x in
     let xs = c.args.xs.now in
     let y = c.args.y in

@@ -7,7 +7,7 @@ use Rattle.table.proofs.reshape.place_diagonal.Goals as goal
 
 pub loop-i-init : goal.loop-i-init
 loop-i-init g c =
-    let s = g.row.S-Scalar in
+    let s = g.S.Scalar in
     let t = c.args.t in
     let old = c.args.ts.now in
     placed_none s.means s.ops c.args.v c.args.vs.now t c.zero.result old c.fill.new.ys c.zero.ensures
@@ -15,7 +15,7 @@ loop-i-init g c =
 
 pub loop-i-preserved : goal.loop-i-preserved
 loop-i-preserved g c =
-    let s = g.row.S-Scalar in
+    let s = g.S.Scalar in
     let v = c.args.v in
     let vs = c.args.vs.now in
     let t = c.args.t in
@@ -29,5 +29,5 @@ loop-i-preserved g c =
 
 pub returns : goal.returns
 returns g c =
-    let s = g.row.S-Scalar in
+    let s = g.S.Scalar in
     placed_all s.means s.ops c.args.v c.args.vs.now c.args.t c.loop-i.i _ _ c.loop-i-test.false c.loop-i.invariant

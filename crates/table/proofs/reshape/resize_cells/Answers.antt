@@ -7,7 +7,7 @@ use Rattle.table.proofs.reshape.resize_cells.Goals.{then-x-y, else-x-y}
 
 pub loop-j-init : goal.loop-j-init
 loop-j-init g c =
-    let s = g.row.S-Scalar in
+    let s = g.S.Scalar in
     let y = c.args.y in
     let old = c.args.ys.now in
     brought_none s.means s.ops c.args.x c.args.xs.now y c.zero.result old c.fill.new.ys c.zero.ensures
@@ -15,7 +15,7 @@ loop-j-init g c =
 
 pub loop-j-preserved : goal.loop-j-preserved
 loop-j-preserved g c =
-    let s = g.row.S-Scalar in
+    let s = g.S.Scalar in
     let x = c.args.x in
     let xs = c.args.xs.now in
     let y = c.args.y in
@@ -32,7 +32,7 @@ loop-j-preserved g c =
 
 pub returns : goal.returns
 returns g c =
-    let s = g.row.S-Scalar in
+    let s = g.S.Scalar in
     brought_all s.means s.ops c.args.x c.args.xs.now c.args.y c.loop-j.j _ _
     (λ k h h'. elim c.if-x-y.branch [
       | then-x-y w ↦ omega (arith, c.loop-j-test.false, w.shared-is)

@@ -2,4 +2,4 @@ use Rattle.table.proofs.Written.{Brought}
 use Rattle.table.proofs.reshape.resize_cells.Given as goal
 
 abbrev pub invariant-loop-j : goal.invariant-loop-j
-invariant-loop-j g l = let s = g.row.S-Scalar in Brought s.means s.ops l.x l.xs l.y l.j l.ys
+invariant-loop-j g l = let s = g.S.Scalar in Brought s.means s.ops l.x l.xs l.y l.j l.ys

@@ -7,7 +7,7 @@ use Rattle.vector.proofs.batch.axpy_part.Goals as goal
 
 pub returns : goal.returns
 returns g c =
-    let s = g.row.S-Scalar in
+    let s = g.S.Scalar in
     let xs = c.args.xs.now in
     let ys = c.args.ys.now in
     let from = c.args.from in

@@ -16,8 +16,8 @@ factor_within f len lane a law one l starts =
     let t = band_fits f.of len lane f.col 1 law.fits l (omega (arith, law.within)) in
     omega arith
 
-pub offset-bounds-fs-start : goal.offset-bounds-fs-start
-offset-bounds-fs-start g c =
+pub offset_bounds-fs-start : goal.offset_bounds-fs-start
+offset_bounds-fs-start g c =
     let below : c.start.result < length c.args.fs.now =
     factor_within c.args.factors (length c.args.fs.now) c.loop-lane.lane c.start.result c.requires.factors c.requires.one (omega (arith, c.requires.each)) c.start.ensures in
     omega arith
@@ -38,7 +38,7 @@ axpy_part-requires g c =
 
 pub loop-lane-preserved : goal.loop-lane-preserved
 loop-lane-preserved g c =
-    let s = g.row.S-Scalar in
+    let s = g.S.Scalar in
     let f = c.args.factors in
     let fs = c.args.fs.now in
     let x = c.args.x in

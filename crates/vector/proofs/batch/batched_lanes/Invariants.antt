@@ -4,5 +4,5 @@ use Rattle.vector.proofs.batch.batched_lanes.Given as goal
 
 abbrev pub invariant-loop-lane : goal.invariant-loop-lane
 invariant-loop-lane g l =
-    let s = g.row.S-Scalar in
+    let s = g.S.Scalar in
     Changed l.y.of (LanesBand l.lane l.y.col 1) (batched s.means s.ops l.factors l.fs l.x l.xs (s.means l.b.0) l.y l.initial.ys) l.initial.ys l.ys

@@ -5,7 +5,7 @@ use Rattle.differences.proofs.matrix.Matrix.entry.Goals as goal
 
 pub returns-in-ByRows : goal.returns-in-ByRows
 returns-in-ByRows g c =
-    let s = g.row.S-Scalar in
+    let s = g.S.Scalar in
     let ms = c.args.numbers.now in
     let k = c.args.self.size in
     let in_rows : c.args.j * k + c.args.l < length ms = search rules in
@@ -14,7 +14,7 @@ returns-in-ByRows g c =
 
 pub returns-in-ByColumns : goal.returns-in-ByColumns
 returns-in-ByColumns g c =
-    let s = g.row.S-Scalar in
+    let s = g.S.Scalar in
     let ms = c.args.numbers.now in
     let k = c.args.self.size in
     let in-columns : c.args.l * k + c.args.j < length ms = search rules in
