@@ -47,7 +47,7 @@ fn check_norm(
 
 /// The square of x / (|y|·rtol + atol).
 fn square<S: Ordered>(x: S, y: S, rtol: S, atol: S) -> S
-    ensures { S.means result ≡ weighted S.ops order (S.means x) (S.means y) (S.means rtol) (S.means atol) }
+    ensures { S.means result ≡ weighted S.ops S.order (S.means x) (S.means y) (S.means rtol) (S.means atol) }
 {
     let q = x.div(y.abs().mul(rtol).add(atol));
     q.mul(q)
@@ -57,7 +57,7 @@ fn square<S: Ordered>(x: S, y: S, rtol: S, atol: S) -> S
 fn norm_run<S: Ordered>(x: &[S], y: &[S], rtol: S, atol: &[S]) -> S
     requires second { length y.now ≡ length x.now }
     requires third { length atol.now ≡ length x.now }
-    ensures { S.means result ≡ mean S.ops order (length x.now) (at S.means S.ops x.now) (at S.means S.ops y.now) (S.means rtol) (at S.means S.ops atol.now) }
+    ensures { S.means result ≡ mean S.ops S.order (length x.now) (at S.means S.ops x.now) (at S.means S.ops y.now) (S.means rtol) (at S.means S.ops atol.now) }
 {
     let mut sum = S::zero();
     for i in 0..x.len() {
@@ -80,7 +80,7 @@ fn norm_part<S: Ordered>(
     requires first { x_from + rows ≤ length xs.now }
     requires second { y_from + rows ≤ length ys.now }
     requires third { atol_from + rows ≤ length atols.now }
-    ensures { S.means result ≡ mean S.ops order rows (λ i. at S.means S.ops xs.now (x_from + i)) (λ i. at S.means S.ops ys.now (y_from + i)) (S.means rtol) (λ i. at S.means S.ops atols.now (atol_from + i)) }
+    ensures { S.means result ≡ mean S.ops S.order rows (λ i. at S.means S.ops xs.now (x_from + i)) (λ i. at S.means S.ops ys.now (y_from + i)) (S.means rtol) (λ i. at S.means S.ops atols.now (atol_from + i)) }
 {
     norm_run(
         &xs[x_from..x_from + rows],
@@ -103,7 +103,7 @@ fn norm_lane<S: Ordered>(
 ) -> S
     requires law { NormLawful x (length xs.now) y (length ys.now) atol (length atols.now) }
     requires lane { lane < x.of.lanes }
-    ensures { S.means result ≡ lane_norm S.means S.ops order x xs.now y ys.now atol atols.now (S.means rtol) lane }
+    ensures { S.means result ≡ lane_norm S.means S.ops S.order x xs.now y ys.now atol atols.now (S.means rtol) lane }
 {
     let y_from = y.start(lane_for(lane, y.of.lanes, x.of.lanes));
     let atol_from = atol.start(lane_for(lane, atol.of.lanes, x.of.lanes));
@@ -130,7 +130,7 @@ fn norm_lanes<S: Ordered>(
     atols: &[S],
 ) -> S
     requires { NormLawful x (length xs.now) y (length ys.now) atol (length atols.now) }
-    ensures { S.means result ≡ reduced S.ops order (lane_norm S.means S.ops order x xs.now y ys.now atol atols.now (S.means rtol)) x.of.lanes }
+    ensures { S.means result ≡ reduced S.ops S.order (lane_norm S.means S.ops S.order x xs.now y ys.now atol atols.now (S.means rtol)) x.of.lanes }
 {
     if x.of.lanes == 1 {
         return norm_lane(x, xs, y, ys, rtol, atol, atols, 0);
@@ -154,7 +154,7 @@ pub fn squared_norm<S: Ordered>(
     atols: &[S],
 ) -> Result<S, Refusal>
     ensures verdict { answer result ≡ first_of (norm_tests x (length xs.now) y (length ys.now) atol (length atols.now)) }
-    ensures accepted { IfOk result (λ v. S.means v ≡ reduced S.ops order (lane_norm S.means S.ops order x xs.now y ys.now atol atols.now (S.means rtol.0)) x.of.lanes) }
+    ensures accepted { IfOk result (λ v. S.means v ≡ reduced S.ops S.order (lane_norm S.means S.ops S.order x xs.now y ys.now atol atols.now (S.means rtol.0)) x.of.lanes) }
 {
     check_norm(x, xs.len(), y, ys.len(), atol, atols.len())?;
     Ok(norm_lanes(x, xs, y, ys, rtol.0, atol, atols))

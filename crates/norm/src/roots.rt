@@ -14,14 +14,14 @@ use shape::{Column, Refusal};
 
 /// |g1 / (g1 − g0)|.
 fn fraction_of<S: Ordered>(g0: S, g1: S) -> S
-    ensures { S.means result ≡ fraction S.ops order (S.means g0) (S.means g1) }
+    ensures { S.means result ≡ fraction S.ops S.order (S.means g0) (S.means g1) }
 {
     g1.div(g1.add(g0.neg())).abs()
 }
 
 /// The signs differ and the fraction is above the best so far.
 fn is_better<S: Ordered>(best: S, g0: S, g1: S) -> bool
-    ensures { result ≡ replaces S.ops order (S.means best) (S.means g0) (S.means g1) }
+    ensures { result ≡ replaces S.ops S.order (S.means best) (S.means g0) (S.means g1) }
 {
     g0.mul(g1).less(S::zero()) && best.less(fraction_of(g0, g1))
 }
@@ -30,7 +30,7 @@ fn is_better<S: Ordered>(best: S, g0: S, g1: S) -> bool
 fn root_run<S: Ordered>(g0: &[S], g1: &[S]) -> (bool, S, i32)
     requires same { length g1.now ≡ length g0.now }
     requires few { length g0.now ≤ 65536 }
-    ensures { Says S.means S.ops order (at S.means S.ops g0.now) (at S.means S.ops g1.now) (length g0.now) result.0 result.1 result.2 }
+    ensures { Says S.means S.ops S.order (at S.means S.ops g0.now) (at S.means S.ops g1.now) (length g0.now) result.0 result.1 result.2 }
 {
     let mut found = false;
     let mut part = S::zero();
@@ -56,7 +56,7 @@ fn root_part<S: Ordered>(
     requires first { from0 + rows ≤ length g0s.now }
     requires second { from1 + rows ≤ length g1s.now }
     requires few { rows ≤ 65536 }
-    ensures { Says S.means S.ops order (λ i. at S.means S.ops g0s.now (from0 + i)) (λ i. at S.means S.ops g1s.now (from1 + i)) rows result.0 result.1 result.2 }
+    ensures { Says S.means S.ops S.order (λ i. at S.means S.ops g0s.now (from0 + i)) (λ i. at S.means S.ops g1s.now (from1 + i)) rows result.0 result.1 result.2 }
 {
     root_run(&g0s[from0..from0 + rows], &g1s[from1..from1 + rows])
 }
@@ -71,7 +71,7 @@ fn root_lane<S: Ordered>(
 ) -> (bool, S, i32)
     requires law { PairLawful g1 (length g1s.now) g0 (length g0s.now) }
     requires lane { lane < g0.of.lanes }
-    ensures { Says S.means S.ops order (lane0 S.means S.ops g0 g0s.now lane) (lane1 S.means S.ops g0 g1 g1s.now lane) g0.of.rows result.0 result.1 result.2 }
+    ensures { Says S.means S.ops S.order (lane0 S.means S.ops g0 g0s.now lane) (lane1 S.means S.ops g0 g1 g1s.now lane) g0.of.rows result.0 result.1 result.2 }
 {
     let from1 = g1.start(lane_for(lane, g1.of.lanes, g0.of.lanes));
     root_part(g0s, g0.start(lane), g1s, from1, g0.of.rows)
@@ -94,9 +94,9 @@ fn root_lanes<S: Ordered>(
     g1s: &[S],
 ) -> Result<(bool, S, i32), Refusal>
     requires { PairLawful g1 (length g1s.now) g0 (length g0s.now) }
-    ensures agree { Agree S.ops order (lane0 S.means S.ops g0 g0s.now) (lane1 S.means S.ops g0 g1 g1s.now) g0.of.rows g0.of.lanes → answer result ≡ 0 }
-    ensures differ { (Agree S.ops order (lane0 S.means S.ops g0 g0s.now) (lane1 S.means S.ops g0 g1 g1s.now) g0.of.rows g0.of.lanes → ⊥) → answer result ≡ 11 }
-    ensures accepted { IfOk result (λ v. Says S.means S.ops order (lane0 S.means S.ops g0 g0s.now 0) (lane1 S.means S.ops g0 g1 g1s.now 0) g0.of.rows v.0 v.1 v.2) }
+    ensures agree { Agree S.ops S.order (lane0 S.means S.ops g0 g0s.now) (lane1 S.means S.ops g0 g1 g1s.now) g0.of.rows g0.of.lanes → answer result ≡ 0 }
+    ensures differ { (Agree S.ops S.order (lane0 S.means S.ops g0 g0s.now) (lane1 S.means S.ops g0 g1 g1s.now) g0.of.rows g0.of.lanes → ⊥) → answer result ≡ 11 }
+    ensures accepted { IfOk result (λ v. Says S.means S.ops S.order (lane0 S.means S.ops g0 g0s.now 0) (lane1 S.means S.ops g0 g1 g1s.now 0) g0.of.rows v.0 v.1 v.2) }
 {
     let first = root_lane(g0, g0s, g1, g1s, 0);
     for lane in 1..g0.of.lanes {
@@ -117,9 +117,9 @@ pub fn root_finding<S: Ordered>(
     g1s: &[S],
 ) -> Result<(bool, S, i32), Refusal>
     ensures verdict { (first_of (pair_tests g1 (length g1s.now) g0 (length g0s.now)) ≢ 0) → answer result ≡ first_of (pair_tests g1 (length g1s.now) g0 (length g0s.now)) }
-    ensures agree { first_of (pair_tests g1 (length g1s.now) g0 (length g0s.now)) ≡ 0 → Agree S.ops order (lane0 S.means S.ops g0 g0s.now) (lane1 S.means S.ops g0 g1 g1s.now) g0.of.rows g0.of.lanes → answer result ≡ 0 }
-    ensures differ { first_of (pair_tests g1 (length g1s.now) g0 (length g0s.now)) ≡ 0 → (Agree S.ops order (lane0 S.means S.ops g0 g0s.now) (lane1 S.means S.ops g0 g1 g1s.now) g0.of.rows g0.of.lanes → ⊥) → answer result ≡ 11 }
-    ensures accepted { IfOk result (λ v. Says S.means S.ops order (lane0 S.means S.ops g0 g0s.now 0) (lane1 S.means S.ops g0 g1 g1s.now 0) g0.of.rows v.0 v.1 v.2) }
+    ensures agree { first_of (pair_tests g1 (length g1s.now) g0 (length g0s.now)) ≡ 0 → Agree S.ops S.order (lane0 S.means S.ops g0 g0s.now) (lane1 S.means S.ops g0 g1 g1s.now) g0.of.rows g0.of.lanes → answer result ≡ 0 }
+    ensures differ { first_of (pair_tests g1 (length g1s.now) g0 (length g0s.now)) ≡ 0 → (Agree S.ops S.order (lane0 S.means S.ops g0 g0s.now) (lane1 S.means S.ops g0 g1 g1s.now) g0.of.rows g0.of.lanes → ⊥) → answer result ≡ 11 }
+    ensures accepted { IfOk result (λ v. Says S.means S.ops S.order (lane0 S.means S.ops g0 g0s.now 0) (lane1 S.means S.ops g0 g1 g1s.now 0) g0.of.rows v.0 v.1 v.2) }
 {
     check_pair(g1, g1s.len(), g0, g0s.len())?;
     root_lanes(g0, g0s, g1, g1s)

@@ -1,6 +1,7 @@
 //! Calls on whole tables, over any scalar. Every source broadcasts where its lanes go into the
 //! destination's; row and column counts must agree, and a refusal writes nothing.
 #![tactic(auto)]
+
 pub mod arithmetic;
 mod check;
 pub mod columns;
