@@ -14,8 +14,8 @@ offset_bounds-numbers-from g c =
     let h = (numbers_in g.S.Scalar.means c.args.t.rows c.args.t.cols c.args.x c.args.numbers.now c.args.indices.now c.requires.passed).0 in
     omega arith
 
-pub slice-bounds-given-end : goal.slice-bounds-given-end
-slice-bounds-given-end g c =
+pub slice_bounds-given-end : goal.slice_bounds-given-end
+slice_bounds-given-end g c =
     let h = (numbers_in g.S.Scalar.means c.args.t.rows c.args.t.cols c.args.x c.args.numbers.now c.args.indices.now c.requires.passed).0 in
     search rules
 

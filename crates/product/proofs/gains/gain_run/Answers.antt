@@ -10,7 +10,7 @@ loop-i-init g c = filled_none _ _
 pub loop-i-preserved : goal.loop-i-preserved
 loop-i-preserved g c =
     let s = g.S.Scalar in
-    let p = at_read s.means s.ops c.args.p.now c.loop-i.i c.index-p_i.result (omega arith) c.index-p_i.is in
+    let p = at_read s.means s.ops c.args.p.now c.loop-i.i c.index-p-i.result (omega arith) c.index-p-i.is in
     let y = unwritten s.means s.ops _ c.args.y.now c.loop-i.y c.loop-i.i c.index-y-i.result c.loop-i.auto.y (omega arith) c.loop-i.invariant c.index-y-i.is in
     filled_more _ _ _ _ _ c.loop-i.invariant (omega arith) (cc)
 

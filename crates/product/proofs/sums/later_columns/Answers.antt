@@ -21,8 +21,8 @@ loop-l-init g c = λ i d h. sym (at_get g.S.Scalar.means g.S.Scalar.ops c.args.y
 pub loop-l-preserved : goal.loop-l-preserved
 loop-l-preserved g c =
     let s = g.S.Scalar in
-    later_more s.means s.ops (s.means c.args.a.0) c.args.d.now c.args.x.now c.args.y.now c.loop-l.y c.add_column.new.y c.loop-l.l c.index-x_l.result
-    c.loop-l.auto.y c.add_column.auto.y c.loop-l.auto.l c.loop-l-test.true c.index-x_l.is c.loop-l.invariant c.add_column.ensures
+    later_more s.means s.ops (s.means c.args.a.0) c.args.d.now c.args.x.now c.args.y.now c.loop-l.y c.add_column.new.y c.loop-l.l c.index-x-l.result
+    c.loop-l.auto.y c.add_column.auto.y c.loop-l.auto.l c.loop-l-test.true c.index-x-l.is c.loop-l.invariant c.add_column.ensures
 
 pub returns : goal.returns
 returns g c = λ i d h.

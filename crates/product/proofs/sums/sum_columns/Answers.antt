@@ -7,8 +7,8 @@ use Rattle.product.proofs.sums.sum_columns.Goals as goal
 nonempty : (n : ℕ) → false ≡ eqb n 0 → 0 < n
 nonempty n e = let h = eqb-false n 0 (sym e) in omega arith
 
-pub slice-bounds-first_column-end : goal.slice-bounds-first_column-end
-slice-bounds-first_column-end g c = sym (length-take-le _ _ (first_fits _ _ _ (nonempty _ c.if-is_empty.ensures) c.requires))
+pub slice_bounds-first_column-end : goal.slice_bounds-first_column-end
+slice_bounds-first_column-end g c = sym (length-take-le _ _ (first_fits _ _ _ (nonempty _ c.if-is_empty.ensures) c.requires))
 
 pub first_column-requires : goal.first_column-requires
 first_column-requires g c = length-take-le _ _ (first_fits _ _ _ (nonempty _ c.if-is_empty.ensures) c.requires)
