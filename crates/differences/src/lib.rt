@@ -1,6 +1,7 @@
 //! Calls on the first columns of a table of backward differences, over any scalar: their product by
 //! a small matrix, the update of the differences, and the transposes of both.
 #![tactic(auto)]
+
 mod matrix;
 pub mod multiply;
 mod tile;

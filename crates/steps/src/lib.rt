@@ -1,6 +1,7 @@
 //! Steps on a table and its two vectors, forward and back: the mathematics of the ten kinds, and the
 //! two laws that hold of every run of them. Nothing here touches memory.
 #![tactic(auto)]
+
 pub mod kind;
 pub mod laws;
 
