@@ -14,7 +14,7 @@ returns-in_err-check_weights g c =
     let after = step_tests t.rows t.cols (step_of g.S.Scalar.means c.args.x c.args.numbers.now c.args.indices.now) in
     let f = c.in_err-check_weights.field-0.0 in
     let e = c.in_err-check_weights.ensures.verdict in
-    let p = err_from_is_err_and c.from-residual.result c.from-residual.ensures.1 in
+    let p = err_from_is_err_and c.from_residual.result c.from_residual.ensures.1 in
     rw (p.1, p.2) (record {
       verdict = e ∙ sym (first_before before after (λ z. number_some f (e ∙ z)));
       lent = λ z. absurd (number_some f z);

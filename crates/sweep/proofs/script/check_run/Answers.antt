@@ -12,7 +12,7 @@ returns-in_err-check_memory c =
     let rest = weights_tests a.t a.e-len a.p-len a.q-len a.w-len a.work-len ++ ((3, not (eqb a.answer-len a.count)) ∷ []) in
     let f = c.in_err-check_memory.field-0.0 in
     let e = c.in_err-check_memory.ensures.verdict in
-    let p = err_from_is_err_and c.from-residual.result c.from-residual.ensures.1 in
+    let p = err_from_is_err_and c.from_residual.result c.from_residual.ensures.1 in
     rw (p.1, p.2) (record {
       verdict = e ∙ sym (first_before state rest (λ z. number_some f (e ∙ z)));
       state = λ z. absurd (number_some f z);
@@ -29,7 +29,7 @@ returns-in_err-check_weights c =
     let f = c.in_err-check_weights.field-0.0 in
     let e = c.in_err-check_weights.ensures.verdict in
     let before = sym c.in_ok-check_memory.ensures.verdict in
-    let p = err_from_is_err_and c.from-residual-in_err-check_weights.result c.from-residual-in_err-check_weights.ensures.1 in
+    let p = err_from_is_err_and c.from_residual-in_err-check_weights.result c.from_residual-in_err-check_weights.ensures.1 in
     rw (p.1, p.2) (record {
       verdict = e ∙ sym (first_after state (carried ++ last) refl before ∙ first_before carried last (λ z. number_some f (e ∙ z)));
       state = λ z. absurd (number_some f z);

@@ -10,7 +10,7 @@ returns-in_err-check_memory c =
     let a = c.args in
     let f = c.in_err-check_memory.field-0.0 in
     let e = c.in_err-check_memory.ensures.verdict in
-    let p = err_from_is_err_and c.from-residual.result c.from-residual.ensures.1 in
+    let p = err_from_is_err_and c.from_residual.result c.from_residual.ensures.1 in
     rw (p.1, p.2) (record {
       verdict = e ∙ sym (first_before (memory_tests a.sweep.now.shape a.d-len a.u-len a.v-len a.work-len) (no_next a.sweep.now a.count) (λ z. number_some f (e ∙ z)));
       left = λ z. absurd (number_some f z);
