@@ -81,7 +81,7 @@ pub(crate) fn scatter_step<S: Scalar>(t: TableShape, us: &[S], vs: &mut [S], lis
     let _ = scatter(rows, us, list, rows, vs);
 }
 
-/// u becomes (typeof.a.D)·x + b·u over the columns `start` to `end` − 1, for the numbers a, b and x.
+/// u becomes (a·D)·x + b·u over the columns `start` to `end` − 1, for the numbers a, b and x.
 pub(crate) fn sum_col_step<S: Scalar>(
     t: TableShape,
     ds: &[S],

@@ -12,7 +12,7 @@ pub enum Kind {
     Update { order: usize },
     /// Columns 0 to count − 1 of D times the matrix M. Back: those of E times M transposed.
     Cols { count: usize },
-    /// u becomes (typeof.a.D)·x + b·u over the columns start to end − 1. Back: each of these columns of E
+    /// u becomes (a·D)·x + b·u over the columns start to end − 1. Back: each of these columns of E
     /// gains (a·x)·p, then p becomes p·b.
     SumCol { start: usize, end: usize },
     /// u gains a column of D. Back: that column of E gains p.
