@@ -1,5 +1,6 @@
 //! One load, broadcast by axpy to the rest times of three lanes: exact and in f64 side by side.
 #![tactic(auto)]
+
 use norm::{root_finding, squared_norm};
 use scalar::{Residue, Scale};
 use shape::{Column, Refusal};

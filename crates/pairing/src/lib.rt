@@ -1,6 +1,7 @@
 //! The pairing of a state with weights: for each lane the sum of all products of a state's entry
 //! with the weight at its place.
 #![tactic(auto)]
+
 ghost use Rattle.std.specs.Prelude.{◌≡◌, ℕ, ◌+◌, ◌<◌, ◌≤◌, length, ◌≢◌};
 ghost use Rattle.scalar.specs.Ops.{Ops};
 ghost use Rattle.scalar.specs.Sums.{at, sum_from};

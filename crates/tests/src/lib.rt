@@ -1,5 +1,6 @@
 //! Examples of every layer, proved and then run. This crate holds tests only.
 #![tactic(auto)]
+
 #[cfg(test)]
 mod indices;
 #[cfg(test)]
