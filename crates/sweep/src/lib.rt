@@ -1,6 +1,7 @@
 //! A sweep: steps of a script taken forward on a state, then carried back on weights, latest first.
 //! The shape and the counts are kept here; memory is lent at each call.
 #![tactic(auto)]
+
 pub mod fault;
 pub mod script;
 pub mod sweep;

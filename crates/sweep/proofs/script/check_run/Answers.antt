@@ -8,8 +8,8 @@ use Rattle.sweep.proofs.script.check_run.Goals as goal
 pub returns-in_err-check_memory : goal.returns-in_err-check_memory
 returns-in_err-check_memory c =
     let a = c.args in
-    let state = memory_tests a.t a.d-len a.u-len a.v-len a.work-len in
-    let rest = weights_tests a.t a.e-len a.p-len a.q-len a.w-len a.work-len ++ ((3, not (eqb a.answer-len a.count)) ∷ []) in
+    let state = memory_tests a.t a.d_len a.u_len a.v_len a.work_len in
+    let rest = weights_tests a.t a.e_len a.p_len a.q_len a.w_len a.work_len ++ ((3, not (eqb a.answer_len a.count)) ∷ []) in
     let f = c.in_err-check_memory.field-0.0 in
     let e = c.in_err-check_memory.ensures.verdict in
     let p = err_from_is_err_and c.from_residual.result c.from_residual.ensures.1 in
@@ -23,9 +23,9 @@ returns-in_err-check_memory c =
 pub returns-in_err-check_weights : goal.returns-in_err-check_weights
 returns-in_err-check_weights c =
     let a = c.args in
-    let state = memory_tests a.t a.d-len a.u-len a.v-len a.work-len in
-    let carried = weights_tests a.t a.e-len a.p-len a.q-len a.w-len a.work-len in
-    let last = (3, not (eqb a.answer-len a.count)) ∷ [] in
+    let state = memory_tests a.t a.d_len a.u_len a.v_len a.work_len in
+    let carried = weights_tests a.t a.e_len a.p_len a.q_len a.w_len a.work_len in
+    let last = (3, not (eqb a.answer_len a.count)) ∷ [] in
     let f = c.in_err-check_weights.field-0.0 in
     let e = c.in_err-check_weights.ensures.verdict in
     let before = sym c.in_ok-check_memory.ensures.verdict in

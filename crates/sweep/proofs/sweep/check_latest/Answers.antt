@@ -12,7 +12,7 @@ returns-in_err-check_weights c =
     let e = c.in_err-check_weights.ensures.verdict in
     let p = err_from_is_err_and c.from_residual.result c.from_residual.ensures.1 in
     rw (p.1, p.2) (record {
-      verdict = e ∙ sym (first_before (weights_tests a.turned.now.shape a.e-len a.p-len a.q-len a.w-len a.work-len) (no_latest a.turned.now a.count) (λ z. number_some f (e ∙ z)));
+      verdict = e ∙ sym (first_before (weights_tests a.turned.now.shape a.e_len a.p_len a.q_len a.w_len a.work_len) (no_latest a.turned.now a.count) (λ z. number_some f (e ∙ z)));
       some = λ z. absurd (number_some f z);
       inside = λ z. absurd (number_some f z);
       room = λ z. absurd (number_some f z);

@@ -12,7 +12,7 @@ returns-in_err-check_memory c =
     let e = c.in_err-check_memory.ensures.verdict in
     let p = err_from_is_err_and c.from_residual.result c.from_residual.ensures.1 in
     rw (p.1, p.2) (record {
-      verdict = e ∙ sym (first_before (memory_tests a.sweep.now.shape a.d-len a.u-len a.v-len a.work-len) (no_next a.sweep.now a.count) (λ z. number_some f (e ∙ z)));
+      verdict = e ∙ sym (first_before (memory_tests a.sweep.now.shape a.d_len a.u_len a.v_len a.work_len) (no_next a.sweep.now a.count) (λ z. number_some f (e ∙ z)));
       left = λ z. absurd (number_some f z);
       room = λ z. absurd (number_some f z);
     })
