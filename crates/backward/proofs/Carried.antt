@@ -1,5 +1,5 @@
 -- From a kind on weights to the step of a script's record. Assumes nothing.
-use Rattle.std.proofs.Common.{◌≡◌, ℕ, true, false, List, map, sym, ◌∙◌, subst}
+use Rattle.std.proofs.Common.{◌≡◌, ℕ, true, false, List, map, sym, subst}
 use Rattle.std.proofs.lemmas.Bool.{true≢false}
 use Rattle.scalar.specs.Ops.{Ops}
 use Rattle.shape.specs.declared.operand.TableShape.{TableShape}

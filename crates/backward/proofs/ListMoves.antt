@@ -1,8 +1,8 @@
 -- What the transposes of gather and scatter leave in each lane, by meanings. Assumes nothing.
-use Rattle.std.proofs.Common.{◌≡◌, ℕ, ◌+◌, ◌<◌, ◌≤◌, false, List, length, get_or, sym, refl, ◌∙◌, subst, arith}
+use Rattle.std.proofs.Common.{◌≡◌, ℕ, ◌<◌, false, List, length, get_or, sym, refl, ◌∙◌, subst, arith}
 use Rattle.scalar.specs.Ops.{Ops}
 use Rattle.scalar.proofs.Stored.{at_get, at_is}
-use Rattle.shape.specs.Shapes.{cell, In, Lawful}
+use Rattle.shape.specs.Shapes.{cell, Lawful}
 use Rattle.shape.specs.Refusals.{first_of}
 use Rattle.shape.specs.declared.operand.Column.{Column}
 use Rattle.shape.proofs.Blocks.{cell_fits}

@@ -1,12 +1,12 @@
 -- What a call on a column leaves in each lane, by meanings, where all operands have the same lanes. Assumes nothing.
-use Rattle.std.proofs.Common.{◌≡◌, ℕ, ◌+◌, ◌*◌, ◌<◌, ◌≤◌, List, length, get_or, sym, refl, ap, ◌∙◌, subst, ap₂, inl, inr, arith}
+use Rattle.std.proofs.Common.{◌≡◌, ℕ, ◌<◌, List, length, get_or, sym, refl, ap, ◌∙◌, subst, inl, inr, arith}
 use Rattle.scalar.specs.Ops.{Ops}
 use Rattle.scalar.specs.Sums.{at}
-use Rattle.shape.specs.Shapes.{cell, column_of, In, Fits, Lawful}
+use Rattle.shape.specs.Shapes.{cell, column_of, In, Lawful}
 use Rattle.shape.specs.Lanes.{lane_for}
 use Rattle.shape.specs.Refusals.{first_of}
 use Rattle.shape.specs.Operands.{column_tests, pair_tests}
-use Rattle.shape.specs.Changes.{Changed, InColumn}
+use Rattle.shape.specs.Changes.{InColumn}
 use Rattle.shape.specs.declared.operand.Column.{Column}
 use Rattle.shape.specs.declared.operand.TableShape.{TableShape}
 use Rattle.shape.proofs.Blocks.{cell_fits}

@@ -1,11 +1,10 @@
 -- What the calls on several columns of a table leave in each lane, by meanings. Assumes nothing.
-use Rattle.std.proofs.Common.{◌≡◌, ℕ, ◌+◌, ◌-◌, ◌*◌, ◌<◌, ◌≤◌, Bool, true, false, cond, ◌&&◌, ltb, leb, List, map, length, get_or, take, drop, sym, refl, ap, ◌∙◌, subst, inl, inr, arith}
+use Rattle.std.proofs.Common.{◌≡◌, ℕ, ◌+◌, ◌-◌, ◌<◌, ◌≤◌, cond, ◌&&◌, ltb, leb, List, map, length, get_or, take, drop, sym, refl, ap, ◌∙◌, subst, inl, inr, arith}
 use Rattle.std.proofs.lemmas.Bool.{cases_lt, le-ltb, lt-leb, and_left, and_right, cond-false}
 use Rattle.std.proofs.lemmas.List.{drop-map, get_or-drop, take_rest, length-drop}
 use Rattle.scalar.specs.Ops.{Ops}
 use Rattle.scalar.specs.Sums.{at}
 use Rattle.shape.specs.Shapes.{cell, In, Fits, Lawful}
-use Rattle.shape.specs.Lanes.{lane_for}
 use Rattle.shape.specs.Refusals.{first_of}
 use Rattle.shape.specs.Changes.{Changed, meant, InColumn, InBand}
 use Rattle.shape.specs.declared.operand.Column.{Column}
@@ -14,12 +13,12 @@ use Rattle.product.specs.Rows.{spread}
 use Rattle.product.specs.Results.{row_of, broadcast, GerCols, cell_gained}
 use Rattle.product.specs.Tests.{ger_cols_tests}
 use Rattle.differences.specs.Rows.{multiplied, transposed}
-use Rattle.differences.specs.MulCols.{mul_cols_tests, Multiplied}
+use Rattle.differences.specs.MulCols.{Multiplied}
 use Rattle.differences.specs.Transposes.{transpose_tests, Transposed, cell_totalled}
 use Rattle.steps.specs.Actions.{total}
 use Rattle.state.specs.Memory.{vector_of}
 use Rattle.state.proofs.Lanes.{lane_own, cell_written, cell_kept}
-use Rattle.backward.proofs.Accepts.{ger_accepted, mul_accepted, transpose_accepted}
+use Rattle.backward.proofs.Accepts.{ger_accepted, transpose_accepted}
 use Rattle.backward.proofs.Moves.{rows}
 
 module _ {S M : Type 0} (means : S → M) (o : Ops M) (t : TableShape) (old cur : List S) (fits : Fits t (length old)) (same : length cur ≡ length old) where

@@ -1,5 +1,5 @@
 -- What the calls on columns of the table leave, where a lane reads its own. Assumes nothing.
-use Rattle.std.proofs.Common.{◌≡◌, ℕ, ◌+◌, ◌-◌, ◌<◌, ◌≤◌, ltb, leb, List, map, length, get_or, take, drop, sym, refl, ap, ◌∙◌, subst, arith}
+use Rattle.std.proofs.Common.{◌≡◌, ℕ, ◌+◌, ◌-◌, ◌<◌, ltb, leb, List, map, length, get_or, take, drop, sym, refl, ap, ◌∙◌, subst, arith}
 use Rattle.std.proofs.lemmas.List.{take_rest, drop-map, get_or-drop}
 use Rattle.std.proofs.lemmas.Bool.{cond-false, le-ltb, lt-leb}
 use Rattle.scalar.specs.Ops.{Ops}
@@ -11,7 +11,7 @@ use Rattle.shape.specs.declared.operand.TableShape.{TableShape}
 use Rattle.shape.specs.declared.operand.Column.{Column}
 use Rattle.shape.proofs.Blocks.{cell_fits}
 use Rattle.product.specs.Rows.{summed}
-use Rattle.product.specs.Results.{row_of, broadcast, GemvCols}
+use Rattle.product.specs.Results.{row_of, GemvCols}
 use Rattle.product.proofs.RowLaws.{summed_cong}
 use Rattle.differences.specs.Rows.{multiplied, updated}
 use Rattle.differences.specs.MulCols.{Multiplied}

@@ -1,10 +1,10 @@
 -- Lawful operands of equal rows and lanes pass the tests of the calls. Assumes nothing.
-use Rattle.std.proofs.Common.{◌≡◌, ℕ, ◌+◌, ◌-◌, ◌*◌, ◌%◌, ◌<◌, ◌≤◌, Bool, true, false, not, ◌||◌, eqb, ltb, leb, List, [], ◌∷◌, length, refl, ◌∙◌, arith}
+use Rattle.std.proofs.Common.{◌≡◌, ℕ, ◌+◌, ◌-◌, ◌*◌, ◌<◌, ◌≤◌, Bool, false, ◌||◌, eqb, ltb, leb, List, [], ◌∷◌, length, refl, ◌∙◌, arith}
 use Rattle.std.proofs.lemmas.Bool.{or_from, or_left, eq-eqb, ne_eqb, le-ltb, lt-leb, not_from_true, cond-false}
 use Rattle.shape.specs.Shapes.{no_lanes, too_large, misfit, no_column, Fits, Lawful}
 use Rattle.shape.specs.Lanes.{no_broadcast}
 use Rattle.shape.specs.Refusals.{first_of}
-use Rattle.shape.specs.Operands.{column_tests, two_tests, pair_tests}
+use Rattle.shape.specs.Operands.{column_tests, pair_tests}
 use Rattle.shape.specs.declared.operand.TableShape.{TableShape}
 use Rattle.shape.specs.declared.operand.Column.{Column}
 use Rattle.shape.proofs.Verdicts.{Clear}

@@ -1,16 +1,16 @@
 -- The tests by a record's places and counts are those of the step that it names. Assumes nothing.
-use Rattle.std.proofs.Common.{◌≡◌, ℕ, ◌+◌, ◌≤◌, Bool, true, false, cond, not, ◌&&◌, ◌||◌, eqb, ltb, leb, List, [], ◌∷◌, map, length, take, drop, Some, None, Option, sym, refl, ap, ◌∙◌, ap₂, inl, inr, arith}
+use Rattle.std.proofs.Common.{◌≡◌, ℕ, ◌+◌, ◌≤◌, Bool, true, false, cond, not, ◌&&◌, ◌||◌, eqb, ltb, leb, List, [], ◌∷◌, map, length, take, drop, Some, None, sym, refl, ap, ◌∙◌, ap₂, inl, inr, arith}
 use Rattle.std.proofs.lemmas.List.{length-map, length-take-le, length-drop}
 use Rattle.std.proofs.lemmas.Bool.{cases_Bool, cond-true, cond-false, leb-true, or_parts, ltb-false}
-use Rattle.shape.specs.Shapes.{no_lanes, too_large, misfit}
+use Rattle.shape.specs.Shapes.{too_large, misfit}
 use Rattle.shape.specs.Refusals.{first_of}
 use Rattle.shape.specs.declared.operand.TableShape.{TableShape}
 use Rattle.shape.proofs.Verdicts.{clear, fits_of}
 use Rattle.index.specs.Indices.{outside}
-use Rattle.steps.specs.Steps.{Step, part, given, needed, listed, misplaced, too_many, miscounted, fault}
+use Rattle.steps.specs.Steps.{part, given, needed, listed, misplaced, too_many, miscounted, fault}
 use Rattle.state.specs.Memory.{vector_of, step_of}
 use Rattle.state.specs.declared.record.StepRecord.{StepRecord}
-use Rattle.forward.specs.Tests.{memory_tests, Roomy, short, list_tests, record_tests}
+use Rattle.forward.specs.Tests.{memory_tests, Roomy, short, record_tests}
 
 module _ {A : Type 0} (place count : ℕ) (xs : List A) where
   pub part_some : leb (place + count) (length xs) ≡ true → part place count xs ≡ Some (take count (drop place xs))

@@ -1,9 +1,9 @@
 -- What the calls on lists of rows leave, by meanings. Assumes nothing.
-use Rattle.std.proofs.Common.{◌≡◌, ℕ, suc, ◌+◌, ◌<◌, ◌≤◌, Bool, true, false, cond, eqb, List, [], ◌∷◌, length, get_or, sym, refl, ap, ◌∙◌, subst, ap₂, arith}
+use Rattle.std.proofs.Common.{◌≡◌, ℕ, suc, ◌+◌, ◌<◌, Bool, true, false, cond, eqb, List, [], ◌∷◌, length, get_or, sym, ap, ◌∙◌, subst, ap₂, arith}
 use Rattle.scalar.specs.Ops.{Ops}
 use Rattle.scalar.specs.Sums.{at}
 use Rattle.scalar.proofs.Stored.{at_get, at_same, at_is}
-use Rattle.shape.specs.Shapes.{cell, In, Lawful}
+use Rattle.shape.specs.Shapes.{cell, Lawful}
 use Rattle.shape.specs.Lanes.{lane_for}
 use Rattle.shape.specs.Refusals.{first_of}
 use Rattle.shape.specs.declared.operand.Column.{Column}

@@ -1,5 +1,5 @@
 -- From a kind on memory to the step of a script's record, and the tests of both. Assumes nothing.
-use Rattle.std.proofs.Common.{◌≡◌, ℕ, ◌+◌, ◌-◌, ◌≤◌, Bool, true, false, not, ◌&&◌, ◌||◌, eqb, leb, List, [], ◌∷◌, ◌++◌, map, length, take, drop, sym, refl, ap, ◌∙◌, subst, arith}
+use Rattle.std.proofs.Common.{◌≡◌, ℕ, ◌+◌, ◌-◌, ◌≤◌, Bool, true, false, not, ◌&&◌, eqb, leb, List, [], ◌∷◌, ◌++◌, map, length, take, drop, sym, refl, ap, ◌∙◌, subst, arith}
 use Rattle.std.proofs.lemmas.List.{take-map, drop-map, length-map}
 use Rattle.std.proofs.lemmas.Bool.{or_parts, not-false, leb-true, le-leb, eqb-true, cond-false, true≢false}
 use Rattle.scalar.specs.Ops.{Ops}
@@ -13,7 +13,6 @@ use Rattle.steps.specs.Steps.{part, given, needed, listed, miscounted, step_test
 use Rattle.steps.specs.Lanes.{StepForward}
 use Rattle.steps.specs.declared.kind.Kind.{Kind}
 use Rattle.steps.specs.declared.kind.Kind.TheVariants.{Update, Cols, SumCol, AddCol, SetCol, Axpy, Copy, Scale, Gather, Scatter}
-use Rattle.steps.proofs.Accepted.{accepted}
 use Rattle.steps.proofs.Chains.{accepted_forward}
 use Rattle.state.specs.Memory.{Memory, lane_of, step_of}
 use Rattle.state.specs.declared.record.StepRecord.{StepRecord}

@@ -1,5 +1,5 @@
 -- The tests of a step on memory, in their order. Assumes nothing.
-use Rattle.std.specs.Prelude.{◌≡◌, ℕ, ◌+◌, ◌≤◌, Bool, not, ◌&&◌, ◌||◌, List, [], ◌∷◌, ◌++◌, length, take, drop, ◌==◌, nat_le, nat_lt}
+use Rattle.std.specs.Prelude.{ℕ, ◌+◌, ◌≤◌, Bool, not, ◌&&◌, ◌||◌, List, [], ◌∷◌, length, take, drop, ◌==◌, nat_le, nat_lt}
 use Rattle.shape.specs.Shapes.{no_lanes, too_large, misfit, Fits}
 use Rattle.shape.specs.declared.operand.TableShape.{TableShape}
 use Rattle.index.specs.Indices.{outside}

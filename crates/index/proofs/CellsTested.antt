@@ -1,12 +1,12 @@
 -- What an accepted index call on tables knows of its operands and its lists. Assumes nothing.
-use Rattle.std.proofs.Common.{◌≡◌, ℕ, ◌<◌, ◌≤◌, ◌||◌, ltb, List, length, get_or, take, sym, refl, ◌∙◌, arith}
+use Rattle.std.proofs.Common.{◌≡◌, ℕ, ◌<◌, ◌≤◌, ltb, List, length, get_or, refl, arith}
 use Rattle.std.proofs.lemmas.List.{length-take, get_or-take}
 use Rattle.std.proofs.lemmas.Bool.{or_parts, ltb-false, leb-false}
 use Rattle.shape.specs.Refusals.{first_of}
 use Rattle.shape.specs.declared.operand.TableShape.{TableShape}
 use Rattle.shape.specs.declared.operand.Column.{Column}
 use Rattle.shape.proofs.Verdicts.{clear, shapes_clear}
-use Rattle.index.specs.Indices.{outside, Inside}
+use Rattle.index.specs.Indices.{outside}
 use Rattle.index.specs.Tables.{lane_cells, paired, cells_tests, CellsLawful, pairs_tests, PairsLawful}
 use Rattle.index.proofs.Tested.{inside_of}
 

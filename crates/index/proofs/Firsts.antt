@@ -1,5 +1,5 @@
 -- The first places of every lane of a table, written lane by lane. Assumes nothing.
-use Rattle.std.proofs.Common.{◌≡◌, ℕ, ◌+◌, ◌*◌, ◌<◌, ◌≤◌, ◌⊎◌, List, get_or, sym, refl, ap, ◌∙◌, inl, inr, mul_comm, arith}
+use Rattle.std.proofs.Common.{◌≡◌, ℕ, ◌+◌, ◌*◌, ◌<◌, ◌≤◌, List, sym, ap, ◌∙◌, inl, inr, mul_comm, arith}
 use Rattle.std.proofs.lemmas.Bool.{cases_eq}
 use Rattle.shape.specs.Shapes.{start, cell, In, Fits}
 use Rattle.shape.specs.Changes.{Changed, RunChanged}

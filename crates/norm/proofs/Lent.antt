@@ -1,5 +1,5 @@
 -- A lane's norm from the runs that were lent. Assumes nothing.
-use Rattle.std.proofs.Common.{◌≡◌, ℕ, ◌+◌, ◌-◌, ◌*◌, ◌<◌, ◌≤◌, cond, List, length, take, drop, sym, refl, ap, ◌∙◌, ap₂, add-one, arith, eq-eqb, ne_eqb}
+use Rattle.std.proofs.Common.{◌≡◌, ℕ, ◌+◌, ◌-◌, ◌<◌, ◌≤◌, cond, List, length, take, drop, sym, ap, ◌∙◌, add-one, arith, eq-eqb, ne_eqb}
 use Rattle.scalar.specs.Ops.{Ops}
 use Rattle.scalar.specs.Orders.{Order}
 use Rattle.scalar.specs.Sums.{at}

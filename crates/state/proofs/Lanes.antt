@@ -1,19 +1,19 @@
 -- From what a call left in a memory to what it made of a lane. Assumes nothing.
-use mathlib.Core.Path.{◌≡◌, refl, sym, ap, ap₂, ◌∙◌}
+use mathlib.Core.Path.{◌≡◌, sym, ap₂, ◌∙◌}
 use mathlib.Core.List.{List, [], ◌∷◌}
-use Prim.Native.Nat.{ℕ, ◌+◌, ◌*◌, ◌/◌, ◌<◌, ◌≤◌}
+use Prim.Native.Nat.{ℕ, ◌*◌, ◌<◌}
 use native.Mathlib.Omega.{arith}
 use native.Mathlib.Nat.{mul-div_cancel}
 use lib.ListN.{length, get_or}
 use Rattle.scalar.specs.Ops.{Ops}
 use Rattle.scalar.specs.Sums.{at}
 use Rattle.scalar.proofs.Stored.{at_get, at_same, at_is}
-use Rattle.shape.specs.Shapes.{cell, whole, In, Fits, Lawful}
+use Rattle.shape.specs.Shapes.{cell, In, Fits, Lawful}
 use Rattle.shape.specs.Lanes.{lane_for}
 use Rattle.shape.specs.Changes.{Changed, meant}
 use Rattle.shape.specs.declared.operand.TableShape.{TableShape}
 use Rattle.shape.proofs.Blocks.{cell_fits}
-use Rattle.state.specs.Memory.{Memory, vector_of, Holds}
+use Rattle.state.specs.Memory.{vector_of}
 
 -- equal counts: a lane reads its own
 pub lane_own : (b n : ℕ) → b < n → lane_for b n n ≡ b

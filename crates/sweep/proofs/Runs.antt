@@ -1,13 +1,12 @@
 -- A run of a script, one step more at a time. Assumes nothing.
-use Rattle.std.proofs.Common.{◌≡◌, ℕ, suc, ◌+◌, ◌<◌, ◌≤◌, cond, ◌||◌, List, [], ◌∷◌, ◌++◌, map, length, get_or, take, drop, set, sym, refl, ap, ◌∙◌, subst, ap₂, arith, drop-cons}
+use Rattle.std.proofs.Common.{◌≡◌, ℕ, suc, ◌+◌, ◌<◌, ◌≤◌, cond, ◌||◌, List, [], ◌∷◌, ◌++◌, length, get_or, take, drop, set, sym, refl, ap, ◌∙◌, subst, ap₂, arith, drop-cons}
 use mathlib.Core.List.{map-append}
-use lib.Seq.{drop-length}
 use Rattle.std.proofs.lemmas.List.{take_more, take-set-le, length-set, get_or-set_same}
 use Rattle.std.proofs.lemmas.Bool.{lt-leb, le-ltb, ne_eqb}
 use Rattle.scalar.specs.Ops.{Ops}
 use Rattle.shape.specs.Refusals.{first_of}
 use Rattle.shape.specs.declared.operand.TableShape.{TableShape}
-use Rattle.steps.specs.Steps.{Step, fault}
+use Rattle.steps.specs.Steps.{Step}
 use Rattle.steps.specs.Lanes.{StepForward, StepBack, RunForward, RunBack}
 use Rattle.steps.proofs.Chains.{forward_more, back_more, forward_answers, back_answers}
 use Rattle.state.specs.Memory.{Memory, lane_of, step_of}

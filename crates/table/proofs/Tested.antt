@@ -1,5 +1,5 @@
 -- What an accepted table call knows of its operands. Assumes nothing.
-use Rattle.std.proofs.Common.{◌≡◌, ℕ, ◌*◌, Bool, false, not, ◌||◌, eqb, refl}
+use Rattle.std.proofs.Common.{◌≡◌, ℕ, false, not, ◌||◌, eqb, refl}
 use Rattle.std.proofs.lemmas.Bool.{or_parts, eqb-true, not-false, leb-false}
 use Rattle.shape.specs.Shapes.{no_lanes, too_large, misfit}
 use Rattle.shape.specs.Lanes.{no_broadcast}

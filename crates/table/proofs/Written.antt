@@ -1,12 +1,11 @@
 -- What calls after one another leave in a table. Assumes nothing.
-use Rattle.std.proofs.Common.{◌≡◌, ℕ, ◌+◌, ◌*◌, ◌<◌, ◌≤◌, true, false, cond, eqb, List, [], ◌∷◌, length, get_or, sym, refl, ap, ◌∙◌, subst, inl, inr, arith, eq-eqb, ne_eqb}
+use Rattle.std.proofs.Common.{◌≡◌, ℕ, ◌+◌, ◌*◌, ◌<◌, ◌≤◌, false, cond, eqb, List, [], ◌∷◌, length, get_or, sym, refl, ap, ◌∙◌, subst, inl, inr, arith, eq-eqb, ne_eqb}
 use Rattle.std.proofs.lemmas.Bool.{cases_eq}
 use Rattle.scalar.specs.Ops.{Ops}
-use Rattle.shape.specs.Shapes.{whole, cell, cells, column_of, In}
+use Rattle.shape.specs.Shapes.{whole, cell, column_of, In}
 use Rattle.shape.specs.Lanes.{lane_for}
 use Rattle.shape.specs.Refusals.{first_of}
 use Rattle.shape.specs.Operands.{pair_tests}
-use Rattle.shape.specs.Changes.{Changed, Everywhere, InColumn}
 use Rattle.shape.specs.declared.operand.TableShape.{TableShape}
 use Rattle.shape.specs.declared.operand.Column.{Column}
 use Rattle.shape.proofs.Blocks.{cells_are}

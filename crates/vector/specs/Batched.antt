@@ -3,7 +3,6 @@ use Rattle.std.specs.Prelude.{◌≡◌, ℕ, Bool, not, ◌||◌, List, [], ◌
 use Rattle.scalar.specs.Ops.{Ops}
 use Rattle.shape.specs.Shapes.{cell, no_lanes, too_large, misfit, no_column, Lawful}
 use Rattle.shape.specs.Lanes.{lane_for, no_broadcast}
-use Rattle.shape.specs.Changes.{Changed, InColumn}
 use Rattle.shape.specs.declared.operand.Column.{Column}
 use Rattle.vector.specs.Rows.{blend}
 

@@ -1,4 +1,4 @@
-use Rattle.std.proofs.Common.{◌≡◌, refl}
+use Rattle.std.proofs.Common.{refl}
 use lib.Ieee.{span, climb, size, odd, units, round, neg, sum, add, mul, div, lt, is_nan}
 use Rattle.std.specs.Float.{float_with_sign}
 use Rattle.figures.proofs.figures_stand.Goals as goal

@@ -1,4 +1,4 @@
-use Rattle.std.proofs.Common.{◌≡◌, ◌+◌, length, ap, ◌∙◌, arith}
+use Rattle.std.proofs.Common.{◌+◌, length, ap, ◌∙◌, arith}
 use Rattle.scalar.specs.Sums.{at, sum_from}
 use Rattle.shape.proofs.Blocks.{band_fits}
 use Rattle.pairing.proofs.add_column.Goals as goal

@@ -1,4 +1,4 @@
-use Rattle.std.proofs.Common.{◌≡◌, length, ap, ◌∙◌, ap₂, arith}
+use Rattle.std.proofs.Common.{ap, ◌∙◌, ap₂, arith}
 use Rattle.scalar.specs.Sums.{sum_from}
 use Rattle.scalar.proofs.SumLaws.{sum_same}
 use Rattle.shape.proofs.Parts.{length_part}

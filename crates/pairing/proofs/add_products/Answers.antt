@@ -1,5 +1,4 @@
-use Rattle.std.proofs.Common.{◌≡◌, sym, ◌∙◌, ap₂, arith}
-use Rattle.scalar.specs.Sums.{at}
+use Rattle.std.proofs.Common.{sym, ◌∙◌, ap₂, arith}
 use Rattle.scalar.proofs.Stored.{at_read}
 use Rattle.scalar.proofs.SumLaws.{sum_next}
 use Rattle.pairing.proofs.add_products.Goals as goal

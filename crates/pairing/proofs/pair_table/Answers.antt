@@ -1,4 +1,4 @@
-use Rattle.std.proofs.Common.{◌≡◌, ℕ, sym, ap, ◌∙◌}
+use Rattle.std.proofs.Common.{ℕ, sym, ap, ◌∙◌}
 use Rattle.scalar.specs.Sums.{at, sum_from}
 use Rattle.shape.specs.Shapes.{cell}
 use Rattle.pairing.proofs.Passed.{columns_next}

@@ -1,4 +1,4 @@
-use Rattle.std.proofs.Common.{◌≡◌, refl}
+use Rattle.std.proofs.Common.{refl}
 use Rattle.shape.specs.Shapes.{column_of}
 use Rattle.state.specs.Memory.{vector_of}
 use Rattle.backward.proofs.Moves.{added, column_put}

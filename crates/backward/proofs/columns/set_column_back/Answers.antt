@@ -1,4 +1,4 @@
-use Rattle.std.proofs.Common.{◌≡◌, length, refl}
+use Rattle.std.proofs.Common.{length, refl}
 use Rattle.shape.specs.Shapes.{column_of, Lawful}
 use Rattle.state.specs.Memory.{vector_of}
 use Rattle.backward.proofs.Moves.{added, filled, column_put}

@@ -1,4 +1,4 @@
-use Rattle.std.proofs.Common.{◌≡◌, refl}
+use Rattle.std.proofs.Common.{refl}
 use Rattle.state.specs.Memory.{vector_of}
 use Rattle.backward.proofs.Moves.{filled}
 use Rattle.backward.proofs.ListMoves.{gathered}

@@ -1,4 +1,4 @@
-use Rattle.std.proofs.Common.{◌≡◌, refl}
+use Rattle.std.proofs.Common.{refl}
 use Rattle.state.specs.Memory.{vector_of}
 use Rattle.backward.proofs.ListMoves.{scattered}
 use Rattle.backward.proofs.lists.scatter_back.Goals as goal

@@ -1,5 +1,5 @@
-use Rattle.std.proofs.Common.{◌≡◌, length, take, drop, sym, ◌∙◌, arith, rules}
-use Rattle.forward.proofs.Taken.{numbers_in, list_in, allowed_listed, allowed_unlisted}
+use Rattle.std.proofs.Common.{sym, arith, rules}
+use Rattle.forward.proofs.Taken.{numbers_in, allowed_listed, allowed_unlisted}
 use Rattle.backward.specs.Backs.{weights}
 use Rattle.backward.proofs.Carried.{carried_listed, carried_unlisted}
 use Rattle.backward.proofs.step.back_accepted.Goals as goal

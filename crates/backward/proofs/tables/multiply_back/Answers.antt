@@ -1,4 +1,4 @@
-use Rattle.std.proofs.Common.{◌≡◌, length, refl, ◌∙◌}
+use Rattle.std.proofs.Common.{length, refl, ◌∙◌}
 use Rattle.backward.proofs.Accepts.{mul_accepted}
 use Rattle.backward.proofs.TableMoves.{multiplied_lane}
 use Rattle.backward.proofs.tables.multiply_back.Goals as goal

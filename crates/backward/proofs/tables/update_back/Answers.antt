@@ -1,4 +1,4 @@
-use Rattle.std.proofs.Common.{◌≡◌, length, refl, ap, ◌∙◌, subst}
+use Rattle.std.proofs.Common.{length, refl, ap, ◌∙◌}
 use Rattle.shape.specs.Shapes.{Lawful}
 use Rattle.state.specs.Memory.{vector_of}
 use Rattle.backward.proofs.Moves.{rows, added}

@@ -1,4 +1,4 @@
-use Rattle.std.proofs.Common.{◌≡◌, refl}
+use Rattle.std.proofs.Common.{refl}
 use Rattle.state.specs.Memory.{vector_of}
 use Rattle.backward.proofs.Moves.{added, filled}
 use Rattle.backward.proofs.vectors.copy_back.Goals as goal

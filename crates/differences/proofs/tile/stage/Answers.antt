@@ -1,7 +1,7 @@
 use Rattle.std.proofs.Common.{◌≡◌, ◌+◌, ◌*◌, ◌<◌, length, get_or, ap, ◌∙◌, inl, inr, arith}
 use lib.Arith.{digits_lt}
 use Rattle.std.proofs.lemmas.Bool.{cases_eq}
-use Rattle.shape.specs.Shapes.{start, cell}
+use Rattle.shape.specs.Shapes.{cell}
 use Rattle.shape.proofs.Blocks.{block_fits, band_fits}
 use Rattle.differences.proofs.tile.stage.Goals as goal
 

@@ -1,4 +1,4 @@
-use Rattle.std.proofs.Common.{◌≡◌, sym, ◌∙◌, arith}
+use Rattle.std.proofs.Common.{sym, ◌∙◌, arith}
 use Rattle.std.proofs.lemmas.List.{get_or_default}
 use Rattle.shape.proofs.Parts.{part_get, length_part, part_changed}
 use Rattle.elementwise.proofs.revised.revise_part.Goals as goal

@@ -1,6 +1,5 @@
-use Rattle.std.proofs.Common.{◌≡◌, sym, refl, ◌∙◌}
+use Rattle.std.proofs.Common.{sym, refl, ◌∙◌}
 use Rattle.std.proofs.lemmas.Result.{err_from_is_err_and}
-use Rattle.shape.specs.Refusals.{first_of}
 use Rattle.steps.specs.Steps.{step_tests}
 use Rattle.steps.proofs.Chains.{refused_forward}
 use Rattle.state.specs.Memory.{lane_of, step_of}

@@ -1,6 +1,6 @@
-use Rattle.std.proofs.Common.{◌≡◌, length, take, drop, sym, ◌∙◌, arith, rules}
+use Rattle.std.proofs.Common.{sym, arith, rules}
 use Rattle.forward.specs.Forward.{memory}
-use Rattle.forward.proofs.Taken.{numbers_in, list_in, allowed_listed, allowed_unlisted, taken_listed, taken_unlisted}
+use Rattle.forward.proofs.Taken.{numbers_in, allowed_listed, allowed_unlisted, taken_listed, taken_unlisted}
 use Rattle.forward.proofs.step.take_step.Goals as goal
 
 pub overflow_add-given : goal.overflow_add-given

@@ -1,4 +1,4 @@
-use Rattle.std.proofs.Common.{◌≡◌, map, length, refl, ◌∙◌}
+use Rattle.std.proofs.Common.{map, length, refl, ◌∙◌}
 use Rattle.differences.specs.Rows.{number}
 use Rattle.forward.proofs.Passes.{mul_cols_passes}
 use Rattle.forward.proofs.Columns.{columns_multiplied}

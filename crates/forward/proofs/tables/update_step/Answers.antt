@@ -1,4 +1,4 @@
-use Rattle.std.proofs.Common.{◌≡◌, length, refl, ap, ◌∙◌}
+use Rattle.std.proofs.Common.{length, refl, ap, ◌∙◌}
 use Rattle.shape.specs.Refusals.{first_of}
 use Rattle.differences.specs.Updates.{update_tests}
 use Rattle.state.specs.Memory.{vector_of}

@@ -1,4 +1,4 @@
-use Rattle.std.proofs.Common.{◌≡◌, length, refl, ap, arith}
+use Rattle.std.proofs.Common.{◌≡◌, length, refl, ap}
 use Rattle.state.specs.Memory.{vector_of}
 use Rattle.forward.proofs.Families.{zipped, vector_in}
 use Rattle.forward.proofs.vectors.copy_step.Goals as goal

@@ -1,4 +1,4 @@
-use Rattle.std.proofs.Common.{◌≡◌, length, refl}
+use Rattle.std.proofs.Common.{length, refl}
 use Rattle.state.specs.Memory.{vector_of}
 use Rattle.forward.proofs.Families.{vector_in}
 use Rattle.forward.proofs.Routes.{gathered}

@@ -1,4 +1,4 @@
-use Rattle.std.proofs.Common.{◌≡◌, ◌+◌, ◌*◌, ◌<◌, ◌≤◌, length, get_or, refl, ap, ◌∙◌, arith}
+use Rattle.std.proofs.Common.{◌≡◌, ◌+◌, ◌*◌, ◌<◌, length, get_or, refl, ap, ◌∙◌, arith}
 use Rattle.shape.specs.Shapes.{start}
 use Rattle.shape.specs.Lanes.{lane_for}
 use Rattle.shape.proofs.Blocks.{lane_below}

@@ -1,4 +1,4 @@
-use Rattle.std.proofs.Common.{◌≡◌, ℕ, ◌+◌, ◌-◌, ◌*◌, ◌<◌, ◌≤◌, List, length, get_or, ap, ◌∙◌, subst, mul_comm, arith}
+use Rattle.std.proofs.Common.{◌≡◌, ℕ, ◌+◌, ◌-◌, ◌*◌, List, length, get_or, ap, ◌∙◌, subst, mul_comm, arith}
 use Rattle.shape.specs.Shapes.{start, cell}
 use Rattle.shape.specs.Lanes.{lane_for}
 use Rattle.shape.specs.Changes.{RunChanged}

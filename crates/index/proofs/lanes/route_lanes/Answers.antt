@@ -1,10 +1,10 @@
-use Rattle.std.proofs.Common.{◌≡◌, ◌+◌, ◌*◌, ◌<◌, ◌≤◌, length, get_or, sym, refl, ap, ◌∙◌, arith}
-use Rattle.shape.specs.Shapes.{start, cell}
+use Rattle.std.proofs.Common.{◌≡◌, ◌+◌, ◌<◌, length, get_or, ap, ◌∙◌, arith}
+use Rattle.shape.specs.Shapes.{start}
 use Rattle.shape.specs.Lanes.{lane_for}
 use Rattle.shape.proofs.Blocks.{band_fits, lane_below}
-use Rattle.shape.proofs.Cells.{lanes_none, column_more, column_all}
+use Rattle.shape.proofs.Cells.{column_more, column_all}
 use Rattle.index.specs.Routes.{became}
-use Rattle.index.specs.Calls.{read, held}
+use Rattle.index.specs.Calls.{read}
 use Rattle.index.proofs.lanes.route_lanes.Goals as goal
 
 pub route_part-requires : goal.route_part-requires

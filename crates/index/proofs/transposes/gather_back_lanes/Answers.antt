@@ -1,5 +1,4 @@
-use Rattle.std.proofs.Common.{◌≡◌, ◌+◌, ◌<◌, ◌≤◌, length, get_or, ap, ◌∙◌, arith}
-use Rattle.shape.specs.Shapes.{start}
+use Rattle.std.proofs.Common.{◌+◌, ◌<◌, length, get_or, ap, ◌∙◌, arith}
 use Rattle.shape.proofs.Blocks.{band_fits}
 use Rattle.shape.proofs.Cells.{column_more, column_all}
 use Rattle.index.specs.Transposes.{lane}

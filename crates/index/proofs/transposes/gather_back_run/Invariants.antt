@@ -1,4 +1,3 @@
-use Rattle.std.proofs.Common.{◌≡◌, ℕ, ◌<◌, length, get_or, drop}
 use Rattle.index.proofs.Backs.{GatheringBack}
 use Rattle.index.proofs.transposes.gather_back_run.Given as goal
 

@@ -1,7 +1,7 @@
-use Rattle.std.proofs.Common.{◌≡◌, suc, ◌-◌, ◌<◌, ◌≤◌, length, get_or, drop, refl, ap, ◌∙◌, ap₂, arith}
+use Rattle.std.proofs.Common.{◌≡◌, ◌-◌, ◌<◌, length, get_or, drop, ap, ◌∙◌, ap₂, arith}
 use Rattle.std.proofs.lemmas.List.{get_or_read}
 use Rattle.index.specs.Transposes.{scattered_back}
-use Rattle.index.proofs.Backs.{ScatteringBack, scattering_none, scattering_more}
+use Rattle.index.proofs.Backs.{scattering_none, scattering_more}
 use Rattle.index.proofs.transposes.scatter_back_run.Goals as goal
 
 pub loop-i-init : goal.loop-i-init

@@ -1,4 +1,4 @@
-use Rattle.std.proofs.Common.{◌≡◌, ◌+◌, ◌<◌, ◌≤◌, length, ap, ◌∙◌, arith}
+use Rattle.std.proofs.Common.{◌+◌, length, ap, ◌∙◌, arith}
 use Rattle.scalar.specs.Sums.{at}
 use Rattle.shape.proofs.Blocks.{band_fits}
 use Rattle.shape.proofs.Broadcast.{reads_from, reads_within}

@@ -1,4 +1,4 @@
-use Rattle.std.proofs.Common.{◌≡◌, sym, ◌∙◌, ap₂, arith}
+use Rattle.std.proofs.Common.{sym, ◌∙◌, ap₂, arith}
 use Rattle.norm.specs.Norms.{lane_norm}
 use Rattle.norm.proofs.Lent.{greatest_next, reduced_one, reduced_many}
 use Rattle.norm.proofs.norms.norm_lanes.Goals as goal

@@ -1,4 +1,4 @@
-use Rattle.std.proofs.Common.{length, ◌∙◌, arith}
+use Rattle.std.proofs.Common.{◌∙◌, arith}
 use Rattle.shape.proofs.Parts.{length_part}
 use Rattle.norm.proofs.Lent.{at_part, mean_of}
 use Rattle.norm.proofs.norms.norm_part.Goals as goal

@@ -2,7 +2,7 @@ use Rattle.std.proofs.Common.{◌≡◌, sym, refl, ap, ◌∙◌, arith, w32}
 use Rattle.std.proofs.lemmas.Int.{to_z_pos}
 use Rattle.scalar.specs.Sums.{at}
 use Rattle.scalar.proofs.Stored.{at_read}
-use Rattle.norm.specs.Roots.{fraction, replaces, Says}
+use Rattle.norm.specs.Roots.{fraction, replaces}
 use Rattle.norm.proofs.Signs.{says_better, says_same, says_at}
 use Rattle.norm.proofs.roots.root_run.Goals as goal
 use Rattle.norm.proofs.roots.root_run.Goals.{then-is_better, else-is_better}

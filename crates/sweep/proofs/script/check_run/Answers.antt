@@ -1,4 +1,4 @@
-use Rattle.std.proofs.Common.{◌≡◌, not, eqb, [], ◌∷◌, ◌++◌, sym, refl, ◌∙◌}
+use Rattle.std.proofs.Common.{not, eqb, [], ◌∷◌, ◌++◌, sym, refl, ◌∙◌}
 use Rattle.std.proofs.lemmas.Result.{err_from_is_err_and}
 use Rattle.forward.specs.Tests.{memory_tests}
 use Rattle.forward.proofs.Taken.{first_before, first_after, number_some}

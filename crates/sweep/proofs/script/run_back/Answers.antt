@@ -1,4 +1,4 @@
-use Rattle.std.proofs.Common.{◌≡◌, ℕ, ◌+◌, List, [], length, drop, sym, refl, ap, ◌∙◌, subst, arith}
+use Rattle.std.proofs.Common.{◌≡◌, ℕ, List, [], length, drop, sym, refl, ap, ◌∙◌, subst, arith}
 use lib.Seq.{drop-length}
 use Rattle.shape.specs.Refusals.{first_of}
 use Rattle.steps.specs.Lanes.{RunBack}

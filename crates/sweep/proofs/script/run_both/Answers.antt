@@ -1,4 +1,4 @@
-use Rattle.std.proofs.Common.{◌≡◌, ℕ, List, ◌∙◌, subst}
+use Rattle.std.proofs.Common.{ℕ, List, ◌∙◌, subst}
 use Rattle.shape.specs.declared.operand.TableShape.{TableShape}
 use Rattle.steps.specs.Lanes.{RunBack}
 use Rattle.state.specs.Memory.{lane_of}

@@ -1,4 +1,4 @@
-use Rattle.std.proofs.Common.{◌≡◌, ℕ, ◌+◌, List, length, take, refl, ap, ◌∙◌, subst, arith, take_all}
+use Rattle.std.proofs.Common.{◌≡◌, ℕ, ◌+◌, List, length, take, ap, ◌∙◌, subst, arith, take_all}
 use Rattle.shape.specs.Refusals.{first_of}
 use Rattle.steps.specs.Lanes.{RunForward}
 use Rattle.state.specs.Memory.{lane_of}

@@ -1,4 +1,4 @@
-use Rattle.std.proofs.Common.{◌≡◌, ℕ, length, sym, ◌∙◌, subst}
+use Rattle.std.proofs.Common.{ℕ, length, sym, ◌∙◌, subst}
 use Rattle.shape.specs.Operands.{TablesLawful}
 use Rattle.shape.proofs.Passes.{tables_pass}
 use Rattle.table.proofs.Written.{scale_added}

@@ -1,4 +1,4 @@
-use Rattle.std.proofs.Common.{◌≡◌, ℕ, ◌<◌, length, sym, ap, ◌∙◌, arith}
+use Rattle.std.proofs.Common.{length, ◌∙◌, arith}
 use Rattle.shape.specs.Shapes.{column_of, Fits}
 use Rattle.shape.proofs.Passes.{shape_passes}
 use Rattle.table.proofs.Passes.{copy_passes}
