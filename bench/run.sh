@@ -2,7 +2,7 @@
 # Times the library, the listed Rust, plain loops, OpenBLAS and reference BLAS in one run and
 # prints a table. With --write the table goes to docs/BENCHMARKS.md too.
 #
-# KONSJIFT_LIB         the library's archive (else target/staticlib/libcapi.a of the repository);
+# KONSJIFT_LIB         the library's archive (else crates/capi/out/libcapi.a of the repository);
 #                      without it only the other sides are timed, and nothing is written
 # CALL                 how the names of the calls to be timed begin (else all)
 # ROUNDS               rounds for each row (else 11)
@@ -12,8 +12,8 @@ set -eu
 archive=${KONSJIFT_LIB:+$(realpath "$KONSJIFT_LIB")}
 cd "$(dirname "$0")/../oracle"
 ./packages.sh libblas3 libopenblas0-serial
-if [ -z "$archive" ] && [ -f ../target/staticlib/libcapi.a ]; then
-    archive=$(realpath ../target/staticlib/libcapi.a)
+if [ -z "$archive" ] && [ -f ../crates/capi/out/libcapi.a ]; then
+    archive=$(realpath ../crates/capi/out/libcapi.a)
 fi
 export KONSJIFT_LIB="$archive"
 cargo build --quiet --offline -j "${JOBS:-1}" --release -p bench

@@ -1,6 +1,6 @@
 /* The worked figures through the C interface. From the repository's root:
  *
- *   rt staticlib capi && cc -Iinclude examples/worked.c target/staticlib/libcapi.a -o target/worked && target/worked
+ *   mkdir -p target && (cd crates/capi && rt lib) && cc -Iinclude examples/worked.c crates/capi/out/libcapi.a -o target/worked && target/worked
  */
 #include "konsjift.h"
 #include <stdio.h>

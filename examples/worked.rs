@@ -1,6 +1,6 @@
 //! The worked figures through the Rust declarations. From the repository's root:
 //!
-//!   rt staticlib capi && rustc -O examples/worked.rs -C link-arg=target/staticlib/libcapi.a -o target/worked && target/worked
+//!   mkdir -p target && (cd crates/capi && rt lib) && rustc -O examples/worked.rs -C link-arg=crates/capi/out/libcapi.a -o target/worked && target/worked
 
 #[path = "../bindings/rust/konsjift.rs"]
 mod konsjift;

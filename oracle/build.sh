@@ -4,7 +4,7 @@
 #
 # DIFFSOL_LA_SRC  the folder with the src/ of diffsol-la 0.3.0 (else ../shared/docs/src, seen from
 #                 the repository)
-# KONSJIFT_LIB    the library's archive (else target/staticlib/libcapi.a of the repository, where
+# KONSJIFT_LIB    the library's archive (else crates/capi/out/libcapi.a of the repository, where
 #                 it is there); without it the driver has the Rust and the definitions only
 # PROFILE         release (else) or dev
 set -eu
@@ -39,8 +39,8 @@ done
     cmp "$source/$file" "listed/diffsol-la/$file"
 done
 
-if [ -z "$archive" ] && [ -f ../target/staticlib/libcapi.a ]; then
-    archive=$(realpath ../target/staticlib/libcapi.a)
+if [ -z "$archive" ] && [ -f ../crates/capi/out/libcapi.a ]; then
+    archive=$(realpath ../crates/capi/out/libcapi.a)
 fi
 export KONSJIFT_LIB="$archive"
 cargo build --quiet --offline -j "${JOBS:-1}" --profile "$profile" -p oracle

@@ -9,7 +9,7 @@ pub record Ops (M : Type 0) : Type 0 where
   pub minus : M → M
   pub is_zero : M → Bool
 
--- what an exact scalar's operations keep; `zero-only`: nothing but zero passes the test for zero
+-- what an exact scalar's operations keep; `zero_only`: nothing but zero passes the test for zero
 pub record Ring {M : Type 0} (o : Ops M) : Type 0 where
   pub plus_assoc : (a b c : M) → o.plus (o.plus a b) c ≡ o.plus a (o.plus b c)
   pub plus_comm : (a b : M) → o.plus a b ≡ o.plus b a
