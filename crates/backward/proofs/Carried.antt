@@ -41,20 +41,20 @@ module _ {S M : Type 0} (means : S → M) (o : Ops M) (t : TableShape) (w z : Me
     abbrev list_of : List ℕ
     list_of = given (part x.list_at x.list_count ks)
 
-    abbrev pub Step-carried : Type 0
-    Step-carried = StepBack o t.rows t.cols t.lanes (lane_of means o t) (step_of means x ns ks) 0 w z
+    abbrev pub StepCarried : Type 0
+    StepCarried = StepBack o t.rows t.cols t.lanes (lane_of means o t) (step_of means x ns ks) 0 w z
 
-    step_carried : BackBy means o t x.kind numbers_of list_of w z → Step-carried
+    step_carried : BackBy means o t x.kind numbers_of list_of w z → StepCarried
     step_carried h = accepted_back o t.rows t.cols t.lanes (lane_of means o t) (step_of means x ns ks) w z passed h
 
     pub carried_listed : listed x.kind ≡ true
-        → BackBy means o t x.kind (map means (cut x.numbers_at x.number_count ns)) (cut x.list_at x.list_count ks) w z → Step-carried
+        → BackBy means o t x.kind (map means (cut x.numbers_at x.number_count ns)) (cut x.list_at x.list_count ks) w z → StepCarried
     carried_listed e h =
         step_carried (subst (λ (y : List M). BackBy means o t x.kind y list_of w z) (numbers_given means t.rows t.cols x ns ks passed)
         (subst (λ (y : List ℕ). BackBy means o t x.kind (map means (cut x.numbers_at x.number_count ns)) y w z) (list_given means t.rows t.cols x ns ks passed e) h))
 
     pub carried_unlisted : (none : List ℕ) → listed x.kind ≡ false
-        → BackBy means o t x.kind (map means (cut x.numbers_at x.number_count ns)) none w z → Step-carried
+        → BackBy means o t x.kind (map means (cut x.numbers_at x.number_count ns)) none w z → StepCarried
     carried_unlisted none e h =
         step_carried (subst (λ (y : List M). BackBy means o t x.kind y list_of w z) (numbers_given means t.rows t.cols x ns ks passed)
         (unlisted x.kind (map means (cut x.numbers_at x.number_count ns)) none list_of e h))

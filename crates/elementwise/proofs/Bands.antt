@@ -9,7 +9,7 @@ use Rattle.shape.specs.declared.operand.Band.{Band}
 use Rattle.shape.specs.declared.operand.Column.{Column}
 use Rattle.shape.proofs.Blocks.{cell_from, lane_below}
 use Rattle.shape.proofs.Cells.{changed_as}
-use Rattle.elementwise.specs.Entrywise.{BandsLawful, banded, revised, Entrywise, Tablewise, Revised, Revised-table}
+use Rattle.elementwise.specs.Entrywise.{BandsLawful, banded, revised, Entrywise, Tablewise, Revised, RevisedTable}
 
 -- what a call of `lane_for` and then one of `start` gave: the start of the source's run
 module _ (x : Band) (xl : ℕ) (y : Band) (yl : ℕ) (law : BandsLawful x xl y yl) (lane read a : ℕ) (l : lane < y.of.lanes)
@@ -68,6 +68,6 @@ module _ {S : Type 0} (R : S → S → Type 0) (old cur : List S) where
   revised_column y q f z =
       changed_as y.of _ _ _ _ old cur (λ b j i w h. omega arith) (λ b j i w h. (omega arith, omega arith)) (λ b j i v w h made. made) (subst (λ (p : Band). Carried p) f z)
 
-  pub revised_cells : (y : TableShape) (q : Band) → q ≡ all_of y → Carried q → Revised-table y R old cur
+  pub revised_cells : (y : TableShape) (q : Band) → q ≡ all_of y → Carried q → RevisedTable y R old cur
   revised_cells y q f z =
       changed_as y _ _ _ _ old cur (λ b j i w h. tt) (λ b j i w h. (omega arith, omega (arith, w.col))) (λ b j i v w h made. made) (subst (λ (p : Band). Carried p) f z)

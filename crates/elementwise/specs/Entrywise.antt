@@ -26,8 +26,8 @@ revised {S = S} R t ys b j i v = (d : S) → R (slice_index_or ys (cell t b j i)
 abbrev pub Revised : {S : Type 0} → Column → (S → S → Type 0) → List S → List S → Type 0
 Revised y R old cur = Changed y.of (InColumn y.col) (revised R y.of old) old cur
 
-abbrev pub Revised-table : {S : Type 0} → TableShape → (S → S → Type 0) → List S → List S → Type 0
-Revised-table y R old cur = Changed y Everywhere (revised R y old) old cur
+abbrev pub RevisedTable : {S : Type 0} → TableShape → (S → S → Type 0) → List S → List S → Type 0
+RevisedTable y R old cur = Changed y Everywhere (revised R y old) old cur
 
 -- ---- columns and tables at once: bands of columns
 

@@ -4,7 +4,7 @@ ghost use Rattle.shape.specs.Shapes.{Fits, Lawful};
 ghost use Rattle.shape.specs.Operands.{shape_tests, column_tests};
 ghost use Rattle.shape.specs.Refusals.{answer, first_of};
 ghost use Rattle.shape.specs.Changes.{Changed, RunChanged, InBand};
-ghost use Rattle.elementwise.specs.Entrywise.{BandLawful, revised, Revised, Revised-table};
+ghost use Rattle.elementwise.specs.Entrywise.{BandLawful, revised, Revised, RevisedTable};
 
 use crate::rules::Revision;
 use shape::check::{check_column, check_shape};
@@ -43,7 +43,7 @@ fn revise_column<S: Copy, R: Revision<S>>(rule: R, y: Column, ys: &mut [S])
 
 fn revise_cells<S: Copy, R: Revision<S>>(rule: R, y: TableShape, ys: &mut [S])
     requires { Fits y (length ys.old) }
-    ensures { Revised-table y (R.Revision.made rule) ys.old ys.new }
+    ensures { RevisedTable y (R.Revision.made rule) ys.old ys.new }
 {
     revise_lanes(rule, y.band(), ys);
 }
@@ -66,7 +66,7 @@ pub fn revise_table<S: Copy, R: Revision<S>>(
     ys: &mut [S],
 ) -> Result<(), Refusal>
     ensures verdict { answer result ≡ first_of (shape_tests y (length ys.old)) }
-    ensures accepted { answer result ≡ 0 → Revised-table y (R.Revision.made rule) ys.old ys.new }
+    ensures accepted { answer result ≡ 0 → RevisedTable y (R.Revision.made rule) ys.old ys.new }
     ensures refused { (answer result ≢ 0) → ys.new ≡ ys.old }
 {
     check_shape(y, ys.len())?;

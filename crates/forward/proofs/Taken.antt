@@ -106,20 +106,20 @@ module _ {S M : Type 0} (means : S → M) (o : Ops M) (t : TableShape) (s m : Me
     abbrev list_of : List ℕ
     list_of = given (part x.list_at x.list_count ks)
 
-    abbrev pub Step-taken : Type 0
-    Step-taken = StepForward o t.rows t.cols t.lanes (lane_of means o t) (step_of means x ns ks) 0 s m
+    abbrev pub StepTaken : Type 0
+    StepTaken = StepForward o t.rows t.cols t.lanes (lane_of means o t) (step_of means x ns ks) 0 s m
 
-    step_taken : Forward means o t x.kind numbers_of list_of s m → Step-taken
+    step_taken : Forward means o t x.kind numbers_of list_of s m → StepTaken
     step_taken h = accepted_forward o t.rows t.cols t.lanes (lane_of means o t) (step_of means x ns ks) s m passed h
 
     pub taken_listed : listed x.kind ≡ true
-        → Forward means o t x.kind (map means (cut x.numbers_at x.number_count ns)) (cut x.list_at x.list_count ks) s m → Step-taken
+        → Forward means o t x.kind (map means (cut x.numbers_at x.number_count ns)) (cut x.list_at x.list_count ks) s m → StepTaken
     taken_listed e h =
         step_taken (subst (λ (z : List M). Forward means o t x.kind z list_of s m) (numbers_given means t.rows t.cols x ns ks passed)
         (subst (λ (z : List ℕ). Forward means o t x.kind (map means (cut x.numbers_at x.number_count ns)) z s m) (list_given means t.rows t.cols x ns ks passed e) h))
 
     pub taken_unlisted : (none : List ℕ) → listed x.kind ≡ false
-        → Forward means o t x.kind (map means (cut x.numbers_at x.number_count ns)) none s m → Step-taken
+        → Forward means o t x.kind (map means (cut x.numbers_at x.number_count ns)) none s m → StepTaken
     taken_unlisted none e h =
         step_taken (subst (λ (z : List M). Forward means o t x.kind z list_of s m) (numbers_given means t.rows t.cols x ns ks passed)
         (unlisted x.kind (map means (cut x.numbers_at x.number_count ns)) none list_of e h))

@@ -11,7 +11,7 @@ use Rattle.shape.specs.declared.operand.Column.{Column}
 use Rattle.shape.proofs.Blocks.{cells_are}
 use Rattle.shape.proofs.Cells.{changed_as}
 use Rattle.shape.proofs.Passes.{pair_passes, own_lane}
-use Rattle.elementwise.specs.Entrywise.{Entrywise, Tablewise, Revised-table}
+use Rattle.elementwise.specs.Entrywise.{Entrywise, Tablewise, RevisedTable}
 use Rattle.index.specs.Calls.{Routed}
 use Rattle.index.specs.declared.route.Route.TheVariants.{Copy}
 use Rattle.table.specs.Tests.{ColumnsLawful, DiagonalLawful, ResizeLawful}
@@ -56,7 +56,7 @@ module _ {S M : Type 0} (means : S → M) (o : Ops M) where
     pub other : (b j i : ℕ) (d : S) → In t b j i → (j < m → i ≡ j → ⊥) → means (get_or cur (cell t b j i) d) ≡ o.zero
 
   module _ (v : Column) (vs : List S) (t : TableShape) where
-    pub placed_none : (zero : S) (old cur : List S) → means zero ≡ o.zero → Revised-table t (λ q w. w ≡ zero) old cur → Placed v vs t 0 cur
+    pub placed_none : (zero : S) (old cur : List S) → means zero ≡ o.zero → RevisedTable t (λ q w. w ≡ zero) old cur → Placed v vs t 0 cur
     placed_none zero old cur e filled = record {
       diagonal = λ b j i d d' w h q. absurd (omega arith);
       other = λ b j i d w n. ap means (filled.written b j i d w tt d) ∙ e;
@@ -99,7 +99,7 @@ module _ {S M : Type 0} (means : S → M) (o : Ops M) where
     pub further : (b j i : ℕ) (d : S) → In y b j i → x.cols ≤ j → means (get_or cur (cell y b j i) d) ≡ o.zero
 
   module _ (x : TableShape) (xs : List S) (y : TableShape) where
-    pub brought_none : (zero : S) (old cur : List S) → means zero ≡ o.zero → Revised-table y (λ q w. w ≡ zero) old cur → Brought x xs y 0 cur
+    pub brought_none : (zero : S) (old cur : List S) → means zero ≡ o.zero → RevisedTable y (λ q w. w ≡ zero) old cur → Brought x xs y 0 cur
     brought_none zero old cur e filled = record {
       copied = λ b j i d d' w h q. absurd (omega arith);
       further = λ b j i d w n. ap means (filled.written b j i d w tt d) ∙ e;

@@ -3,7 +3,7 @@ ghost use Rattle.std.specs.Prelude.{◌≡◌, length, ◌≢◌};
 ghost use Rattle.scalar.specs.Ops.{Ops};
 ghost use Rattle.shape.specs.Refusals.{answer, first_of};
 ghost use Rattle.shape.specs.Operands.{shape_tests, table_tests};
-ghost use Rattle.elementwise.specs.Entrywise.{Tablewise, Revised-table};
+ghost use Rattle.elementwise.specs.Entrywise.{Tablewise, RevisedTable};
 ghost use Rattle.vector.specs.Rows.{less};
 
 use elementwise::{revise_table, zip_tables};
@@ -56,7 +56,7 @@ pub fn sub_into<S: Scalar>(
 /// y becomes y·by.
 pub fn mul_assign<S: Scalar>(by: Scale<S>, y: TableShape, ys: &mut [S]) -> Result<(), Refusal>
     ensures verdict { answer result ≡ first_of (shape_tests y (length ys.old)) }
-    ensures accepted { answer result ≡ 0 → Revised-table y (λ q v. S.means v ≡ S.ops.times (S.means q) (S.means by.0)) ys.old ys.new }
+    ensures accepted { answer result ≡ 0 → RevisedTable y (λ q v. S.means v ≡ S.ops.times (S.means q) (S.means by.0)) ys.old ys.new }
     ensures refused { (answer result ≢ 0) → ys.new ≡ ys.old }
 {
     revise_table(Scaled { by }, y, ys)

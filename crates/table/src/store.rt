@@ -2,7 +2,7 @@
 ghost use Rattle.std.specs.Prelude.{◌≡◌, length, ◌≢◌};
 ghost use Rattle.shape.specs.Refusals.{answer, first_of};
 ghost use Rattle.shape.specs.Operands.{shape_tests, table_tests};
-ghost use Rattle.elementwise.specs.Entrywise.{Tablewise, Revised-table};
+ghost use Rattle.elementwise.specs.Entrywise.{Tablewise, RevisedTable};
 
 use elementwise::{Fill, Replace, revise_table, zip_tables};
 use scalar::Scalar;
@@ -25,7 +25,7 @@ pub fn copy_from<S: Scalar>(
 /// Every cell becomes `value`.
 pub fn fill<S: Scalar>(value: S, y: TableShape, ys: &mut [S]) -> Result<(), Refusal>
     ensures verdict { answer result ≡ first_of (shape_tests y (length ys.old)) }
-    ensures accepted { answer result ≡ 0 → Revised-table y (λ q v. v ≡ value) ys.old ys.new }
+    ensures accepted { answer result ≡ 0 → RevisedTable y (λ q v. v ≡ value) ys.old ys.new }
     ensures refused { (answer result ≢ 0) → ys.new ≡ ys.old }
 {
     revise_table(Fill { value }, y, ys)
