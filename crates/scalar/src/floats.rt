@@ -10,42 +10,6 @@ ghost use Rattle.std.proofs.Common.{rules};
 use crate::{Ordered, Scalar};
 use std::num;
 
-fn zero_64() -> f64
-    ensures { result ≡ zero_float }
-{
-    0.0
-}
-
-fn one_64() -> f64
-    ensures { result ≡ one_float }
-{
-    1.0
-}
-
-fn is_zero_64(x: f64) -> bool
-    ensures { result ≡ is_zero_float x }
-{
-    x == 0.0
-}
-
-fn zero_32() -> f32
-    ensures { result ≡ zero_float }
-{
-    0.0
-}
-
-fn one_32() -> f32
-    ensures { result ≡ one_float }
-{
-    1.0
-}
-
-fn is_zero_32(x: f32) -> bool
-    ensures { result ≡ is_zero_float x }
-{
-    x == 0.0
-}
-
 impl Scalar for f64 {
     ghost Meaning = { Float };
 
@@ -59,30 +23,14 @@ impl Scalar for f64 {
 
     ghost zero_is_zero = { Prim.search rules };
 
-    ghost plus_assoc = { Prim.search rules };
-
-    ghost plus_comm = { Prim.search rules };
-
-    ghost plus_zero = { Prim.search rules };
-
-    ghost plus_minus = { Prim.search rules };
-
-    ghost times_assoc = { Prim.search rules };
-
-    ghost times_comm = { Prim.search rules };
-
-    ghost times_one = { Prim.search rules };
-
-    ghost times_plus = { Prim.search rules };
-
-    ghost zero_only = { Prim.search rules };
+    ghost ring = { Prim.search rules };
 
     fn zero() -> f64 {
-        zero_64()
+        0.0
     }
 
     fn one() -> f64 {
-        one_64()
+        1.0
     }
 
     fn add(self, other: f64) -> f64 {
@@ -98,7 +46,7 @@ impl Scalar for f64 {
     }
 
     fn is_zero(self) -> bool {
-        is_zero_64(self)
+        self == 0.0
     }
 }
 
@@ -115,30 +63,14 @@ impl Scalar for f32 {
 
     ghost zero_is_zero = { Prim.search rules };
 
-    ghost plus_assoc = { Prim.search rules };
-
-    ghost plus_comm = { Prim.search rules };
-
-    ghost plus_zero = { Prim.search rules };
-
-    ghost plus_minus = { Prim.search rules };
-
-    ghost times_assoc = { Prim.search rules };
-
-    ghost times_comm = { Prim.search rules };
-
-    ghost times_one = { Prim.search rules };
-
-    ghost times_plus = { Prim.search rules };
-
-    ghost zero_only = { Prim.search rules };
+    ghost ring = { Prim.search rules };
 
     fn zero() -> f32 {
-        zero_32()
+        0.0
     }
 
     fn one() -> f32 {
-        one_32()
+        1.0
     }
 
     fn add(self, other: f32) -> f32 {
@@ -154,7 +86,7 @@ impl Scalar for f32 {
     }
 
     fn is_zero(self) -> bool {
-        is_zero_32(self)
+        self == 0.0
     }
 }
 
@@ -170,11 +102,11 @@ impl Ordered for f64 {
     ghost set = { float_set };
 
     fn zero() -> f64 {
-        zero_64()
+        <f64 as Scalar>::zero()
     }
 
     fn one() -> f64 {
-        one_64()
+        <f64 as Scalar>::one()
     }
 
     fn add(self, other: f64) -> f64 {
@@ -190,7 +122,7 @@ impl Ordered for f64 {
     }
 
     fn is_zero(self) -> bool {
-        is_zero_64(self)
+        Scalar::is_zero(self)
     }
 
     fn div(self, other: f64) -> f64 {
@@ -234,11 +166,11 @@ impl Ordered for f32 {
     ghost set = { float_set };
 
     fn zero() -> f32 {
-        zero_32()
+        <f32 as Scalar>::zero()
     }
 
     fn one() -> f32 {
-        one_32()
+        <f32 as Scalar>::one()
     }
 
     fn add(self, other: f32) -> f32 {
@@ -254,7 +186,7 @@ impl Ordered for f32 {
     }
 
     fn is_zero(self) -> bool {
-        is_zero_32(self)
+        Scalar::is_zero(self)
     }
 
     fn div(self, other: f32) -> f32 {

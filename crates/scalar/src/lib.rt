@@ -3,7 +3,7 @@
 #![tactic(auto)]
 
 ghost use Rattle.std.specs.Prelude.{◌≡◌, ℕ, Bool, true, Decides};
-ghost use Rattle.scalar.specs.Ops.{Ops};
+ghost use Rattle.scalar.specs.Ops.{Ops, Ring};
 ghost use Rattle.scalar.specs.Orders.{Order};
 
 pub mod factor;
@@ -49,23 +49,8 @@ pub trait Scalar: Copy {
 
     ghost zero_is_zero: { ops.is_zero ops.zero ≡ true };
 
-    ghost plus_assoc: { exact → (a b c : Meaning) → ops.plus (ops.plus a b) c ≡ ops.plus a (ops.plus b c) };
-
-    ghost plus_comm: { exact → (a b : Meaning) → ops.plus a b ≡ ops.plus b a };
-
-    ghost plus_zero: { exact → (a : Meaning) → ops.plus a ops.zero ≡ a };
-
-    ghost plus_minus: { exact → (a : Meaning) → ops.plus a (ops.minus a) ≡ ops.zero };
-
-    ghost times_assoc: { exact → (a b c : Meaning) → ops.times (ops.times a b) c ≡ ops.times a (ops.times b c) };
-
-    ghost times_comm: { exact → (a b : Meaning) → ops.times a b ≡ ops.times b a };
-
-    ghost times_one: { exact → (a : Meaning) → ops.times a ops.one ≡ a };
-
-    ghost times_plus: { exact → (a b c : Meaning) → ops.times a (ops.plus b c) ≡ ops.plus (ops.times a b) (ops.times a c) };
-
-    ghost zero_only: { exact → (a : Meaning) → ops.is_zero a ≡ true → a ≡ ops.zero };
+    // The operations of an exact scalar are those of a commutative ring.
+    ghost ring: { exact → Ring ops };
 }
 
 /// A scalar type with an order, a quotient and a size, over a set of meanings of its own.

@@ -26,23 +26,7 @@ impl Scalar for Wrap {
 
     ghost zero_is_zero = { Prim.search rules };
 
-    ghost plus_assoc = { λ _. (modular_ring (2 ^ 64) (lit< tt)).plus_assoc };
-
-    ghost plus_comm = { λ _. (modular_ring (2 ^ 64) (lit< tt)).plus_comm };
-
-    ghost plus_zero = { λ _. (modular_ring (2 ^ 64) (lit< tt)).plus_zero };
-
-    ghost plus_minus = { λ _. (modular_ring (2 ^ 64) (lit< tt)).plus_minus };
-
-    ghost times_assoc = { λ _. (modular_ring (2 ^ 64) (lit< tt)).times_assoc };
-
-    ghost times_comm = { λ _. (modular_ring (2 ^ 64) (lit< tt)).times_comm };
-
-    ghost times_one = { λ _. (modular_ring (2 ^ 64) (lit< tt)).times_one };
-
-    ghost times_plus = { λ _. (modular_ring (2 ^ 64) (lit< tt)).times_plus };
-
-    ghost zero_only = { λ _. (modular_ring (2 ^ 64) (lit< tt)).zero_only };
+    ghost ring = { λ _. modular_ring (2 ^ 64) (lit< tt) };
 
     fn zero() -> Wrap {
         Wrap(0)
@@ -76,21 +60,12 @@ const MODULUS: u64 = 2147483647;
 #[derive(Clone, Copy, Debug)]
 pub struct Residue(pub u64);
 
-/// The number below the modulus that means the same.
-fn reduced(number: u64) -> u64
-    ensures means { residue result ≡ residue number }
-    ensures stored { result < modulus }
-{
-    number % MODULUS
-}
+impl From<u64> for Residue {
+    // What any number means, stored below the modulus.
+    ghost from_gives = { λ number r. (residue r.0 ≡ residue number) × (r.0 < modulus) };
 
-impl Residue {
-    /// What any number means, stored below the modulus.
-    pub fn of(number: u64) -> Residue
-        ensures means { residue result.0 ≡ residue number }
-        ensures stored { result.0 < modulus }
-    {
-        Residue(reduced(number))
+    fn from(number: u64) -> Residue {
+        Residue(number % MODULUS)
     }
 }
 
@@ -121,23 +96,7 @@ impl Scalar for Residue {
 
     ghost zero_is_zero = { Prim.search rules };
 
-    ghost plus_assoc = { λ _. (modular_ring modulus (lit< tt)).plus_assoc };
-
-    ghost plus_comm = { λ _. (modular_ring modulus (lit< tt)).plus_comm };
-
-    ghost plus_zero = { λ _. (modular_ring modulus (lit< tt)).plus_zero };
-
-    ghost plus_minus = { λ _. (modular_ring modulus (lit< tt)).plus_minus };
-
-    ghost times_assoc = { λ _. (modular_ring modulus (lit< tt)).times_assoc };
-
-    ghost times_comm = { λ _. (modular_ring modulus (lit< tt)).times_comm };
-
-    ghost times_one = { λ _. (modular_ring modulus (lit< tt)).times_one };
-
-    ghost times_plus = { λ _. (modular_ring modulus (lit< tt)).times_plus };
-
-    ghost zero_only = { λ _. (modular_ring modulus (lit< tt)).zero_only };
+    ghost ring = { λ _. modular_ring modulus (lit< tt) };
 
     fn zero() -> Residue
         ensures means { residue result.0 ≡ residues.zero }
@@ -157,21 +116,21 @@ impl Scalar for Residue {
         ensures means { residue result.0 ≡ residues.plus (residue self.0) (residue other.0) }
         ensures stored { result.0 < modulus }
     {
-        Residue::of(self.0 % MODULUS + other.0 % MODULUS)
+        Residue::from(self.0 % MODULUS + other.0 % MODULUS)
     }
 
     fn mul(self, other: Residue) -> Residue
         ensures means { residue result.0 ≡ residues.times (residue self.0) (residue other.0) }
         ensures stored { result.0 < modulus }
     {
-        Residue::of((self.0 % MODULUS) * (other.0 % MODULUS))
+        Residue::from((self.0 % MODULUS) * (other.0 % MODULUS))
     }
 
     fn neg(self) -> Residue
         ensures means { residue result.0 ≡ residues.minus (residue self.0) }
         ensures stored { result.0 < modulus }
     {
-        Residue::of(MODULUS - self.0 % MODULUS)
+        Residue::from(MODULUS - self.0 % MODULUS)
     }
 
     fn is_zero(self) -> bool {

@@ -25,23 +25,7 @@ impl<S: Scalar> Scalar for Pair<S> {
 
     ghost zero_is_zero = { Prim.search rules };
 
-    ghost plus_assoc = { λ e. (paired_ring {o = S.Scalar.ops} (Prim.search rules)).plus_assoc };
-
-    ghost plus_comm = { λ e. (paired_ring {o = S.Scalar.ops} (Prim.search rules)).plus_comm };
-
-    ghost plus_zero = { λ e. (paired_ring {o = S.Scalar.ops} (Prim.search rules)).plus_zero };
-
-    ghost plus_minus = { λ e. (paired_ring {o = S.Scalar.ops} (Prim.search rules)).plus_minus };
-
-    ghost times_assoc = { λ e. (paired_ring {o = S.Scalar.ops} (Prim.search rules)).times_assoc };
-
-    ghost times_comm = { λ e. (paired_ring {o = S.Scalar.ops} (Prim.search rules)).times_comm };
-
-    ghost times_one = { λ e. (paired_ring {o = S.Scalar.ops} (Prim.search rules)).times_one };
-
-    ghost times_plus = { λ e. (paired_ring {o = S.Scalar.ops} (Prim.search rules)).times_plus };
-
-    ghost zero_only = { λ e. (paired_ring {o = S.Scalar.ops} (Prim.search rules)).zero_only };
+    ghost ring = { λ e. paired_ring (S.Scalar.ring e) };
 
     fn zero() -> Pair<S> {
         Pair {
