@@ -50,12 +50,6 @@ pub record Same (b j i b' j' i' : ℕ) : Type 0 where
   pub col : j ≡ j'
   pub row : i ≡ i'
 
-pub cell_same : (t : TableShape) (b j i b' j' i' : ℕ) → In t b j i → In t b' j' i' → cell t b j i ≡ cell t b' j' i' → Same b j i b' j' i'
-cell_same t b j i b' j' i' w w' e =
-    let p = block_lane (b * t.cols + j) i (b' * t.cols + j') i' t.rows w.row w'.row e in
-    let q = block_lane b j b' j' t.cols w.col w'.col p.0 in
-    record { lane = q.0; col = q.1; row = p.1 }
-
 -- a cell outside a lane's band lies before its run or after
 pub band_apart : (t : TableShape) (l c n b j i : ℕ) → c + n ≤ t.cols → j < t.cols → i < t.rows → (LaneBand l c n b j i → ⊥)
     → (cell t b j i < start t l c) ⊎ (start t l c + n * t.rows ≤ cell t b j i)

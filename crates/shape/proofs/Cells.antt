@@ -1,5 +1,5 @@
 -- Memories that differ in named cells: writes after one another. Assumes nothing.
-use Rattle.std.proofs.Common.{◌≡◌, ℕ, ◌+◌, ◌-◌, ◌*◌, ◌<◌, ◌≤◌, ◌⊎◌, List, sym, refl, ap, ◌∙◌, inl, inr, arith}
+use Rattle.std.proofs.Common.{◌≡◌, ℕ, ◌+◌, ◌-◌, ◌*◌, ◌<◌, ◌≤◌, ◌⊎◌, List, sym, ap, ◌∙◌, inl, inr, arith}
 use lib.Arith.{digits_lt}
 use Rattle.shape.specs.Shapes.{start, cell, In}
 use Rattle.std.proofs.lemmas.Bool.{cases_eq}
@@ -8,10 +8,6 @@ use Rattle.shape.specs.declared.operand.TableShape.{TableShape}
 use Rattle.shape.proofs.Blocks.{band_apart, cell_from}
 
 module _ {S : Type 0} (t : TableShape) where
-  -- nothing is written yet
-  pub changed_none : (D : ℕ → ℕ → ℕ → Type 0) (P : ℕ → ℕ → ℕ → S → Type 0) (old : List S) → ((b j i : ℕ) → D b j i → ⊥) → Changed t D P old old
-  changed_none D P old none = record { written = λ b j i d w h. absurd (none b j i h); kept = λ b j i d w n. refl }
-
   -- the cells of D and then those of E make those of D'
   pub changed_more : (D E D' : ℕ → ℕ → ℕ → Type 0) (P Q : ℕ → ℕ → ℕ → S → Type 0) (old cur cur' : List S)
       → ((b j i : ℕ) → In t b j i → D' b j i → E b j i ⊎ ((E b j i → ⊥) × D b j i))
@@ -50,9 +46,6 @@ module _ {S : Type 0} (t : TableShape) where
   }
 
   -- ---- a loop over the lanes, a band a lane
-
-  pub lanes_none : (c n : ℕ) (P : ℕ → ℕ → ℕ → S → Type 0) (old : List S) → Changed t (LanesBand 0 c n) P old old
-  lanes_none c n P old = changed_none (LanesBand 0 c n) P old (λ b j i h. omega arith)
 
   pub lanes_more : (l c n a : ℕ) (P : ℕ → ℕ → ℕ → S → Type 0) (Q : ℕ → S → Type 0) (old cur cur' : List S) → a ≡ start t l c → c + n ≤ t.cols
       → ((j i : ℕ) (v : S) → In t l j i → c ≤ j → j < c + n → Q ((j - c) * t.rows + i) v → P l j i v)

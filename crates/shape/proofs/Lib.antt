@@ -4,3 +4,4 @@ pub mod Cells
 pub mod Parts
 pub mod Broadcast
 pub mod Passes
+pub mod Answered

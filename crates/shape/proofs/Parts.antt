@@ -1,5 +1,5 @@
 -- Runs lent from a memory: what a part holds, what a write to it leaves, and a run filled entry by entry. Assumes nothing.
-use Rattle.std.proofs.Common.{◌≡◌, ℕ, ◌+◌, ◌-◌, ◌<◌, ◌≤◌, ◌≢◌, ◌⊎◌, List, length, get_or, take, drop, set, refl, ap, ◌∙◌, inl, inr, ⊎_elim, arith, rules}
+use Rattle.std.proofs.Common.{◌≡◌, ℕ, ◌+◌, ◌-◌, ◌<◌, ◌≤◌, ◌≢◌, ◌⊎◌, List, length, get_or, take, drop, set, ap, ◌∙◌, inl, inr, ⊎_elim, arith, rules}
 use borrow.Rule.Slice.PartMut.{put_mid}
 use Rattle.std.proofs.lemmas.List.{places, get_or-set_same, get_or-set_other}
 use Rattle.std.proofs.lemmas.Bool.{cases_eq}
@@ -32,9 +32,6 @@ module _ {S : Type 0} where
   pub record Filled (P : ℕ → S → Type 0) (old cur : List S) (i : ℕ) : Type 0 where
     pub done : (k : ℕ) (d : S) → k < i → P k (get_or cur k d)
     pub rest : (k : ℕ) (d : S) → i ≤ k → get_or cur k d ≡ get_or old k d
-
-  pub filled_none : (P : ℕ → S → Type 0) (old : List S) → Filled P old old 0
-  filled_none P old = record { done = λ k d h. absurd (omega arith); rest = λ k d h. refl }
 
   pub filled_more : (P : ℕ → S → Type 0) (old cur : List S) (i : ℕ) (v : S) → Filled P old cur i → i < length cur → P i v → Filled P old (set cur i v) (i + 1)
   filled_more P old cur i v inv h p = record {

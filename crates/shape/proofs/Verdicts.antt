@@ -1,9 +1,9 @@
 -- What a verdict of 0 tells of the operands. Assumes nothing.
-use Rattle.std.proofs.Common.{◌≡◌, ℕ, ◌<◌, Bool, true, false, cond, not, ◌&&◌, ◌||◌, eqb, ltb, List, [], ◌∷◌, refl, arith}
+use Rattle.std.proofs.Common.{◌≡◌, ℕ, ◌<◌, Bool, true, false, cond, ◌&&◌, ◌||◌, ltb, List, [], ◌∷◌, refl, arith}
 use Rattle.std.proofs.lemmas.Bool.{and_parts, or_parts, ltb-true, ltb-false, leb-false, eqb-true, eqb-false, not-false}
 use Rattle.shape.specs.Shapes.{no_lanes, too_large, misfit, no_column, Fits, Lawful}
 use Rattle.shape.specs.Refusals.{first_of}
-use Rattle.shape.specs.Operands.{shape_tests, column_tests, two_tests, TwoLawful, pair_tests, PairLawful, table_tests, TablesLawful}
+use Rattle.shape.specs.Operands.{TwoLawful}
 use Rattle.shape.specs.declared.operand.TableShape.{TableShape}
 use Rattle.shape.specs.declared.operand.Column.{Column}
 
@@ -44,9 +44,6 @@ fits_of t len lanes large size =
 pub lawful_of : (v : Column) (len : ℕ) → no_lanes v.of ≡ false → too_large v.of ≡ false → misfit v.of len ≡ false → no_column v ≡ false → Lawful v len
 lawful_of v len lanes large size col = record { fits = fits_of v.of len lanes large size; within = leb-false v.of.cols v.col col }
 
-pub shape_passed : (t : TableShape) (len : ℕ) → first_of (shape_tests t len) ≡ 0 → Fits t len
-shape_passed t len e = let p = clear (shape_tests t len) refl e in fits_of t len p.0 p.1.0 p.1.1.0
-
 pub shapes_clear : (x : TableShape) (xl : ℕ) (y : TableShape) (yl : ℕ) → no_lanes x || no_lanes y ≡ false → too_large x || too_large y ≡ false → misfit x xl || misfit y yl ≡ false
     → Fits x xl × Fits y yl
 shapes_clear x xl y yl p₁ p₂ p₃ =
@@ -54,9 +51,6 @@ shapes_clear x xl y yl p₁ p₂ p₃ =
     let large = or_parts (too_large x) (too_large y) p₂ in
     let size = or_parts (misfit x xl) (misfit y yl) p₃ in
     (fits_of x xl lanes.0 large.0 size.0, fits_of y yl lanes.1 large.1 size.1)
-
-pub column_passed : (v : Column) (len : ℕ) → first_of (column_tests v len) ≡ 0 → Lawful v len
-column_passed v len e = let p = clear (column_tests v len) refl e in lawful_of v len p.0 p.1.0 p.1.1.0 p.1.1.1.0
 
 pub two_clear : (x : Column) (xl : ℕ) (y : Column) (yl : ℕ) → no_lanes x.of || no_lanes y.of ≡ false → too_large x.of || too_large y.of ≡ false
     → misfit x.of xl || misfit y.of yl ≡ false → no_column x || no_column y ≡ false → TwoLawful x xl y yl
@@ -66,25 +60,3 @@ two_clear x xl y yl p₁ p₂ p₃ p₄ =
     let size = or_parts (misfit x.of xl) (misfit y.of yl) p₃ in
     let cols = or_parts (no_column x) (no_column y) p₄ in
     record { source = lawful_of x xl lanes.0 large.0 size.0 cols.0; target = lawful_of y yl lanes.1 large.1 size.1 cols.1 }
-
-pub two_passed : (x : Column) (xl : ℕ) (y : Column) (yl : ℕ) → first_of (two_tests x xl y yl) ≡ 0 → TwoLawful x xl y yl
-two_passed x xl y yl e = let p = clear (two_tests x xl y yl) refl e in two_clear x xl y yl p.0 p.1.0 p.1.1.0 p.1.1.1.0
-
-pub pair_passed : (x : Column) (xl : ℕ) (y : Column) (yl : ℕ) → first_of (pair_tests x xl y yl) ≡ 0 → PairLawful x xl y yl
-pair_passed x xl y yl e =
-    let p = clear (pair_tests x xl y yl) refl e in
-    let two = two_clear x xl y yl p.0 p.1.0 p.1.1.0 p.1.1.1.0 in
-    record { source = two.source; target = two.target; rows = eqb-true _ _ (not-false _ p.1.1.1.1.0); lanes = p.1.1.1.1.1.0 }
-
-pub tables_passed : (x : TableShape) (xl : ℕ) (y : TableShape) (yl : ℕ) → first_of (table_tests x xl y yl) ≡ 0 → TablesLawful x xl y yl
-tables_passed x xl y yl e =
-    let p = clear (table_tests x xl y yl) refl e in
-    let fit = shapes_clear x xl y yl p.0 p.1.0 p.1.1.0 in
-    let counts = or_parts (not (eqb x.rows y.rows)) (not (eqb x.cols y.cols)) p.1.1.1.0 in
-    record {
-      source = fit.0;
-      target = fit.1;
-      rows = eqb-true _ _ (not-false _ counts.0);
-      cols = eqb-true _ _ (not-false _ counts.1);
-      lanes = p.1.1.1.1.0;
-    }

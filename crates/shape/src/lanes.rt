@@ -14,7 +14,7 @@ pub fn no_broadcast(source: usize, lanes: usize) -> bool
     if source == 0 {
         return true;
     }
-    !((source == 1) | (lanes % source == 0))
+    source != 1 && lanes % source != 0
 }
 
 /// The source lane that `lane`, of `lanes`, reads: ⌊lane·source/lanes⌋, so each source lane

@@ -61,14 +61,11 @@ impl Column {
         }
     }
 
-    /// Where the column's run of a lane starts. It wraps, so it answers for every shape; what it
-    /// answers is promised for the lanes of a lawful operand.
+    /// Where the column's run of a lane starts, promised for the lanes of a lawful operand.
     pub fn start(self, lane: usize) -> usize
         ensures { (len : ℕ) → Lawful self len → lane < self.of.lanes → result ≡ start self.of lane self.col }
     {
-        lane.wrapping_mul(self.of.cols)
-            .wrapping_add(self.col)
-            .wrapping_mul(self.of.rows)
+        self.band().start(lane)
     }
 
     /// The one column as a band.
@@ -84,7 +81,8 @@ impl Column {
 }
 
 impl Band {
-    /// Where a lane's run starts, promised for the lanes of a shape that fits its memory.
+    /// Where a lane's run starts. It wraps, so it answers for every shape; what it answers is
+    /// promised for the lanes of a shape that fits its memory.
     pub fn start(self, lane: usize) -> usize
         ensures { (len : ℕ) → Fits self.of len → self.first ≤ self.of.cols → lane < self.of.lanes → result ≡ start self.of lane self.first }
     {
