@@ -1,7 +1,6 @@
 -- Where the run of a lane starts in the source and in the destination, and the places in it. Assumes nothing.
-use Rattle.std.proofs.Common.{◌≡◌, ℕ, ◌+◌, ◌-◌, ◌*◌, ◌<◌, ◌≤◌, List, sym, refl, ap, ◌∙◌, subst, arith}
+use Rattle.std.proofs.Common.{◌≡◌, ℕ, ◌+◌, ◌-◌, ◌*◌, ◌<◌, ◌≤◌, List, sym, ap, ◌∙◌, subst, arith}
 use Rattle.shape.specs.Shapes.{start, cell, band_of, all_of, Fits}
-use Rattle.shape.specs.Operands.{PairLawful, TablesLawful}
 use Rattle.shape.specs.Changes.{Changed, InBand}
 use Rattle.shape.specs.Lanes.{lane_for}
 use Rattle.shape.specs.declared.operand.TableShape.{TableShape}
@@ -9,7 +8,7 @@ use Rattle.shape.specs.declared.operand.Band.{Band}
 use Rattle.shape.specs.declared.operand.Column.{Column}
 use Rattle.shape.proofs.Blocks.{cell_from, lane_below}
 use Rattle.shape.proofs.Cells.{changed_as}
-use Rattle.elementwise.specs.Entrywise.{BandsLawful, banded, revised, Entrywise, Tablewise, Revised, RevisedTable}
+use Rattle.elementwise.specs.Entrywise.{BandsLawful, banded, Entrywise, Tablewise}
 
 -- what a call of `lane_for` and then one of `start` gave: the start of the source's run
 module _ (x : Band) (xl : ℕ) (y : Band) (yl : ℕ) (law : BandsLawful x xl y yl) (lane read a : ℕ) (l : lane < y.of.lanes)
@@ -30,19 +29,6 @@ place_in t b f c j i r a e rows = ap (λ z. z + ((j - c) * r + i)) e ∙ ap (λ 
 
 -- ---- a column and a whole table as bands
 
-pub pair_bands : (x : Column) (xl : ℕ) (y : Column) (yl : ℕ) → PairLawful x xl y yl → BandsLawful (band_of x) xl (band_of y) yl
-pair_bands x xl y yl p = record {
-  source = p.source.fits;
-  target = p.target.fits;
-  source_within = omega (arith, p.source.within);
-  target_within = omega (arith, p.target.within);
-  rows = p.rows;
-  count = refl;
-}
-
-pub table_bands : (x : TableShape) (xl : ℕ) (y : TableShape) (yl : ℕ) → TablesLawful x xl y yl → BandsLawful (all_of x) xl (all_of y) yl
-table_bands x xl y yl p = record { source = p.source; target = p.target; source_within = omega arith; target_within = omega arith; rows = p.rows; count = p.cols }
-
 module _ {S : Type 0} (R : S → S → S → Type 0) (xs old cur : List S) where
   abbrev Zipped : Band → Band → Type 0
   Zipped x y = Changed y.of (InBand y.first y.count) (banded R x xs y old) old cur
@@ -59,15 +45,3 @@ module _ {S : Type 0} (R : S → S → S → Type 0) (xs old cur : List S) where
   zipped_tables x y p q e f z =
       changed_as y _ _ _ _ old cur (λ b j i w h. tt) (λ b j i w h. (omega arith, omega (arith, w.col)))
       (λ b j i v w h made d. let col : 0 + (j - 0) ≡ j = omega arith in rw col at (made d)) (as_bands p (all_of x) q (all_of y) e f z)
-
-module _ {S : Type 0} (R : S → S → Type 0) (old cur : List S) where
-  abbrev Carried : Band → Type 0
-  Carried y = Changed y.of (InBand y.first y.count) (revised R y.of old) old cur
-
-  pub revised_column : (y : Column) (q : Band) → q ≡ band_of y → Carried q → Revised y R old cur
-  revised_column y q f z =
-      changed_as y.of _ _ _ _ old cur (λ b j i w h. omega arith) (λ b j i w h. (omega arith, omega arith)) (λ b j i v w h made. made) (subst (λ (p : Band). Carried p) f z)
-
-  pub revised_cells : (y : TableShape) (q : Band) → q ≡ all_of y → Carried q → RevisedTable y R old cur
-  revised_cells y q f z =
-      changed_as y _ _ _ _ old cur (λ b j i w h. tt) (λ b j i w h. (omega arith, omega (arith, w.col))) (λ b j i v w h made. made) (subst (λ (p : Band). Carried p) f z)

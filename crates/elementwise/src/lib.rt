@@ -2,10 +2,10 @@
 //! carries it through rows, columns and lanes, over any element type and with broadcast.
 #![tactic(auto)]
 
-pub mod revised;
+pub mod operand;
+mod revised;
 pub mod rules;
-pub mod zipped;
+mod zipped;
 
-pub use revised::{revise, revise_table};
+pub use operand::Operand;
 pub use rules::{Fill, Replace, Revision, Rule};
-pub use zipped::{zip, zip_tables};

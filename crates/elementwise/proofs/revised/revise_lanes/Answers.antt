@@ -1,7 +1,7 @@
 use Rattle.std.proofs.Common.{◌≡◌, ◌+◌, ◌-◌, ◌*◌, ◌≤◌, length, get_or, sym, refl, ap, ◌∙◌, arith}
 use Rattle.shape.specs.Shapes.{start, cell}
 use Rattle.shape.proofs.Blocks.{band_fits}
-use Rattle.shape.proofs.Cells.{lanes_more, lanes_all}
+use Rattle.shape.proofs.Cells.{lanes_more}
 use Rattle.elementwise.proofs.Bands.{place_in}
 use Rattle.elementwise.proofs.revised.revise_lanes.Goals as goal
 
@@ -32,6 +32,3 @@ loop-lane-preserved g c =
     rw (sym read-y) (q d))
     c.loop-lane.invariant
     c.revise_part.ensures
-
-pub returns : goal.returns
-returns g c = lanes_all _ _ _ _ _ _ _ c.loop-lane-test.false c.loop-lane.invariant

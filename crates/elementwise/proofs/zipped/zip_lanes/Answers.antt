@@ -2,7 +2,7 @@ use Rattle.std.proofs.Common.{◌≡◌, ◌+◌, ◌-◌, ◌*◌, ◌<◌, ◌
 use Rattle.shape.specs.Shapes.{start, cell}
 use Rattle.shape.specs.Lanes.{lane_for}
 use Rattle.shape.proofs.Blocks.{band_fits}
-use Rattle.shape.proofs.Cells.{lanes_more, lanes_all}
+use Rattle.shape.proofs.Cells.{lanes_more}
 use Rattle.elementwise.proofs.Bands.{read_below, reads_from, place_in}
 use Rattle.elementwise.proofs.zipped.zip_lanes.Goals as goal
 
@@ -47,6 +47,3 @@ loop-lane-preserved g c =
     rw (sym read-x, sym read-y) (q d))
     c.loop-lane.invariant
     c.zip_part.ensures
-
-pub returns : goal.returns
-returns g c = lanes_all _ _ _ _ _ _ _ c.loop-lane-test.false c.loop-lane.invariant
