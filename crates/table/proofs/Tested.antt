@@ -1,13 +1,12 @@
 -- What an accepted table call knows of its operands. Assumes nothing.
 use Rattle.std.proofs.Common.{◌≡◌, ℕ, false, not, ◌||◌, eqb, refl}
-use Rattle.std.proofs.lemmas.Bool.{or_parts, eqb-true, not-false, leb-false}
+use Rattle.std.proofs.lemmas.Bool.{or_parts, eqb-true, not-false}
 use Rattle.shape.specs.Shapes.{no_lanes, too_large, misfit}
 use Rattle.shape.specs.Lanes.{no_broadcast}
 use Rattle.shape.specs.Refusals.{first_of}
 use Rattle.shape.specs.declared.operand.TableShape.{TableShape}
-use Rattle.shape.specs.declared.operand.Column.{Column}
 use Rattle.shape.proofs.Verdicts.{clear, fits_of, shapes_clear}
-use Rattle.table.specs.Tests.{other_counts, three_tests, ThreeLawful, columns_tests, ColumnsLawful, diagonal_tests, DiagonalLawful, resize_tests, ResizeLawful}
+use Rattle.table.specs.Tests.{other_counts, three_tests, ThreeLawful}
 
 same_count : (a b : ℕ) → not (eqb a b) ≡ false → a ≡ b
 same_count a b e = eqb-true a b (not-false _ e)
@@ -28,36 +27,3 @@ three_passed x xl y yl t tl e =
       first = record { source = sources.0; target = target; rows = same_count _ _ of-x.0; cols = same_count _ _ of-x.1; lanes = broadcast.0 };
       second = record { source = sources.1; target = target; rows = same_count _ _ of-y.0; cols = same_count _ _ of-y.1; lanes = broadcast.1 };
     }
-
-pub columns_passed : (t : TableShape) (tl : ℕ) (v : Column) (vl : ℕ) → first_of (columns_tests t tl v vl) ≡ 0 → ColumnsLawful t tl v vl
-columns_passed t tl v vl e =
-    let p = clear (columns_tests t tl v vl) refl e in
-    let fit = shapes_clear t tl v.of vl p.0 p.1.0 p.1.1.0 in
-    let q = p.1.1.1 in
-    record {
-      source = fit.0;
-      target = record { fits = fit.1; within = leb-false v.of.cols v.col q.0 };
-      rows = same_count _ _ q.1.0;
-      lanes = same_count _ _ q.1.1.0;
-    }
-
-pub diagonal_passed : (v : Column) (vl : ℕ) (t : TableShape) (tl : ℕ) → first_of (diagonal_tests v vl t tl) ≡ 0 → DiagonalLawful v vl t tl
-diagonal_passed v vl t tl e =
-    let p = clear (diagonal_tests v vl t tl) refl e in
-    let fit = shapes_clear v.of vl t tl p.0 p.1.0 p.1.1.0 in
-    let q = p.1.1.1 in
-    let counts = or_parts (not (eqb t.rows v.of.rows)) (not (eqb t.cols v.of.rows)) q.1.0 in
-    record {
-      source = record { fits = fit.0; within = leb-false v.of.cols v.col q.0 };
-      target = fit.1;
-      rows = same_count _ _ counts.0;
-      cols = same_count _ _ counts.1;
-      lanes = same_count _ _ q.1.1.0;
-    }
-
-pub resize_passed : (x : TableShape) (xl : ℕ) (y : TableShape) (yl : ℕ) → first_of (resize_tests x xl y yl) ≡ 0 → ResizeLawful x xl y yl
-resize_passed x xl y yl e =
-    let p = clear (resize_tests x xl y yl) refl e in
-    let fit = shapes_clear x xl y yl p.0 p.1.0 p.1.1.0 in
-    let q = p.1.1.1 in
-    record { source = fit.0; target = fit.1; rows = same_count _ _ q.0; lanes = same_count _ _ q.1.0 }

@@ -1,5 +1,5 @@
 //! A table's columns and a vector.
-ghost use Rattle.std.specs.Prelude.{◌≡◌, length, ◌≢◌};
+ghost use Rattle.std.specs.Prelude.{◌≡◌, length, OnOk, OnErr};
 ghost use Rattle.scalar.specs.Ops.{Ops};
 ghost use Rattle.shape.specs.Shapes.{column_of};
 ghost use Rattle.shape.specs.Refusals.{answer, first_of};
@@ -21,10 +21,10 @@ pub fn set_column<S: Scalar>(
     ts: &mut [S],
 ) -> Result<(), Refusal>
     ensures verdict { answer result ≡ first_of (pair_tests v (length vs.now) (column_of t j) (length ts.old)) }
-    ensures accepted { answer result ≡ 0 → Entrywise v vs.now (column_of t j) (λ p q w. w ≡ p) ts.old ts.new }
-    ensures refused { (answer result ≢ 0) → ts.new ≡ ts.old }
+    ensures accepted { OnOk result (Entrywise v vs.now (column_of t j) (λ p q w. w ≡ p) ts.old ts.new) }
+    ensures refused { OnErr result (ts.new ≡ ts.old) }
 {
-    vector::copy_from(v, vs, Column { of: t, col: j }, ts)
+    vector::copy_from(v, vs, t.column(j), ts)
 }
 
 /// v gains column j of t.
@@ -36,10 +36,10 @@ pub fn add_column_to_vector<S: Scalar>(
     vs: &mut [S],
 ) -> Result<(), Refusal>
     ensures verdict { answer result ≡ first_of (pair_tests (column_of t j) (length ts.now) v (length vs.old)) }
-    ensures accepted { answer result ≡ 0 → Entrywise (column_of t j) ts.now v (λ p q w. S.means w ≡ S.ops.plus (S.means q) (S.means p)) vs.old vs.new }
-    ensures refused { (answer result ≢ 0) → vs.new ≡ vs.old }
+    ensures accepted { OnOk result (Entrywise (column_of t j) ts.now v (λ p q w. S.means w ≡ S.ops.plus (S.means q) (S.means p)) vs.old vs.new) }
+    ensures refused { OnErr result (vs.new ≡ vs.old) }
 {
-    vector::add_assign(Column { of: t, col: j }, ts, v, vs)
+    vector::add_assign(t.column(j), ts, v, vs)
 }
 
 /// A table's lanes and columns lie as the lanes of a vector do, so this is a sum of vectors. The
@@ -59,8 +59,8 @@ pub fn add_columns_to_batched_vector<S: Scalar>(
     vs: &mut [S],
 ) -> Result<(), Refusal>
     ensures verdict { answer result ≡ first_of (columns_tests t (length ts.now) v (length vs.old)) }
-    ensures accepted { answer result ≡ 0 → ColumnsAdded S.means S.ops t ts.now v vs.old vs.new }
-    ensures refused { (answer result ≢ 0) → vs.new ≡ vs.old }
+    ensures accepted { OnOk result (ColumnsAdded S.means S.ops t ts.now v vs.old vs.new) }
+    ensures refused { OnErr result (vs.new ≡ vs.old) }
 {
     check_columns(t, ts.len(), v, vs.len())?;
     add_columns(t, ts, v, vs);

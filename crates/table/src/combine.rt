@@ -1,28 +1,15 @@
 //! scale_add_and_assign: a table becomes x + b·y.
-ghost use Rattle.std.specs.Prelude.{◌≡◌, length, ◌≢◌};
+ghost use Rattle.std.specs.Prelude.{◌≡◌, length, OnOk, OnErr};
 ghost use Rattle.scalar.specs.Ops.{Ops};
 ghost use Rattle.shape.specs.Refusals.{answer, first_of};
 ghost use Rattle.table.specs.Tests.{three_tests, ThreeLawful};
 ghost use Rattle.table.specs.Calls.{ScaleAdded};
 
 use crate::check::check_three;
-use elementwise::{Replace, Rule, zip_tables};
+use elementwise::{Operand, Replace};
 use scalar::{Scalar, Scale};
 use shape::{Refusal, TableShape};
-
-/// y + a·x for a factor a.
-#[derive(Clone, Copy)]
-pub struct Gain<S> {
-    pub by: Scale<S>,
-}
-
-impl<S: Scalar> Rule<S> for Gain<S> {
-    ghost made = { λ f x y v. S.Scalar.means v ≡ S.Scalar.ops.plus (S.Scalar.means y) (S.Scalar.ops.times (S.Scalar.means f.by.0) (S.Scalar.means x)) };
-
-    fn apply(self, x: S, y: S) -> S {
-        y.add(self.by.0.mul(x))
-    }
-}
+use vector::combine::Gained;
 
 /// The shapes are lawful, so both passes are accepted.
 fn scale_add_cells<S: Scalar>(
@@ -37,8 +24,8 @@ fn scale_add_cells<S: Scalar>(
     requires { ThreeLawful x (length xs.now) y (length ys.now) t (length ts.old) }
     ensures { ScaleAdded S.means S.ops x xs.now (S.means b.0) y ys.now t ts.old ts.new }
 {
-    let _ = zip_tables(Replace, x, xs, t, ts);
-    let _ = zip_tables(Gain { by: b }, y, ys, t, ts);
+    let _ = TableShape::zip(Replace, x, xs, t, ts);
+    let _ = TableShape::zip(Gained { by: b }, y, ys, t, ts);
 }
 
 /// Every cell of t becomes x + b·y; y is read also where b is zero.
@@ -52,8 +39,8 @@ pub fn scale_add_and_assign<S: Scalar>(
     ts: &mut [S],
 ) -> Result<(), Refusal>
     ensures verdict { answer result ≡ first_of (three_tests x (length xs.now) y (length ys.now) t (length ts.old)) }
-    ensures accepted { answer result ≡ 0 → ScaleAdded S.means S.ops x xs.now (S.means b.0) y ys.now t ts.old ts.new }
-    ensures refused { (answer result ≢ 0) → ts.new ≡ ts.old }
+    ensures accepted { OnOk result (ScaleAdded S.means S.ops x xs.now (S.means b.0) y ys.now t ts.old ts.new) }
+    ensures refused { OnErr result (ts.new ≡ ts.old) }
 {
     check_three(x, xs.len(), y, ys.len(), t, ts.len())?;
     scale_add_cells(x, xs, b, y, ys, t, ts);

@@ -1,15 +1,13 @@
-//! Sums, differences, products and quotients, entry by entry.
-ghost use Rattle.std.specs.Prelude.{◌≡◌, length, ◌≢◌};
+//! Sums, differences, products and quotients, entry by entry, of columns or of whole tables.
+ghost use Rattle.std.specs.Prelude.{◌≡◌, length, OnOk, OnErr};
 ghost use Rattle.scalar.specs.Ops.{Ops};
 ghost use Rattle.scalar.specs.Orders.{Order};
 ghost use Rattle.shape.specs.Refusals.{answer, first_of};
-ghost use Rattle.shape.specs.Operands.{column_tests, pair_tests};
-ghost use Rattle.elementwise.specs.Entrywise.{Entrywise, Revised};
 ghost use Rattle.vector.specs.Rows.{less};
 
-use elementwise::{Revision, Rule, revise, zip};
+use elementwise::{Operand, Revision, Rule};
 use scalar::{Ordered, Scalar, Scale};
-use shape::{Column, Refusal};
+use shape::Refusal;
 
 /// y + x.
 #[derive(Clone, Copy)]
@@ -100,74 +98,74 @@ impl<S: Ordered> Revision<S> for Divided<S> {
 }
 
 /// y becomes y + x.
-pub fn add_assign<S: Scalar>(x: Column, xs: &[S], y: Column, ys: &mut [S]) -> Result<(), Refusal>
-    ensures verdict { answer result ≡ first_of (pair_tests x (length xs.now) y (length ys.old)) }
-    ensures accepted { answer result ≡ 0 → Entrywise x xs.now y (λ p q v. S.means v ≡ S.ops.plus (S.means q) (S.means p)) ys.old ys.new }
-    ensures refused { (answer result ≢ 0) → ys.new ≡ ys.old }
+pub fn add_assign<S: Scalar, O: Operand>(x: O, xs: &[S], y: O, ys: &mut [S]) -> Result<(), Refusal>
+    ensures verdict { answer result ≡ first_of (O.pair_tests x (length xs.now) y (length ys.old)) }
+    ensures accepted { OnOk result (O.Entrywise S x xs.now y (λ p q v. S.means v ≡ S.ops.plus (S.means q) (S.means p)) ys.old ys.new) }
+    ensures refused { OnErr result (ys.new ≡ ys.old) }
 {
-    zip(Sum, x, xs, y, ys)
+    O::zip(Sum, x, xs, y, ys)
 }
 
 /// y becomes y − x.
-pub fn sub_assign<S: Scalar>(x: Column, xs: &[S], y: Column, ys: &mut [S]) -> Result<(), Refusal>
-    ensures verdict { answer result ≡ first_of (pair_tests x (length xs.now) y (length ys.old)) }
-    ensures accepted { answer result ≡ 0 → Entrywise x xs.now y (λ p q v. S.means v ≡ less S.ops (S.means q) (S.means p)) ys.old ys.new }
-    ensures refused { (answer result ≢ 0) → ys.new ≡ ys.old }
+pub fn sub_assign<S: Scalar, O: Operand>(x: O, xs: &[S], y: O, ys: &mut [S]) -> Result<(), Refusal>
+    ensures verdict { answer result ≡ first_of (O.pair_tests x (length xs.now) y (length ys.old)) }
+    ensures accepted { OnOk result (O.Entrywise S x xs.now y (λ p q v. S.means v ≡ less S.ops (S.means q) (S.means p)) ys.old ys.new) }
+    ensures refused { OnErr result (ys.new ≡ ys.old) }
 {
-    zip(Difference, x, xs, y, ys)
+    O::zip(Difference, x, xs, y, ys)
 }
 
 /// The right operand y becomes x − y: the left one broadcasts into it.
-pub fn sub_into<S: Scalar>(x: Column, xs: &[S], y: Column, ys: &mut [S]) -> Result<(), Refusal>
-    ensures verdict { answer result ≡ first_of (pair_tests x (length xs.now) y (length ys.old)) }
-    ensures accepted { answer result ≡ 0 → Entrywise x xs.now y (λ p q v. S.means v ≡ less S.ops (S.means p) (S.means q)) ys.old ys.new }
-    ensures refused { (answer result ≢ 0) → ys.new ≡ ys.old }
+pub fn sub_into<S: Scalar, O: Operand>(x: O, xs: &[S], y: O, ys: &mut [S]) -> Result<(), Refusal>
+    ensures verdict { answer result ≡ first_of (O.pair_tests x (length xs.now) y (length ys.old)) }
+    ensures accepted { OnOk result (O.Entrywise S x xs.now y (λ p q v. S.means v ≡ less S.ops (S.means p) (S.means q)) ys.old ys.new) }
+    ensures refused { OnErr result (ys.new ≡ ys.old) }
 {
-    zip(Reverse, x, xs, y, ys)
+    O::zip(Reverse, x, xs, y, ys)
 }
 
 /// y becomes y·x, entry by entry.
-pub fn component_mul_assign<S: Scalar>(
-    x: Column,
+pub fn component_mul_assign<S: Scalar, O: Operand>(
+    x: O,
     xs: &[S],
-    y: Column,
+    y: O,
     ys: &mut [S],
 ) -> Result<(), Refusal>
-    ensures verdict { answer result ≡ first_of (pair_tests x (length xs.now) y (length ys.old)) }
-    ensures accepted { answer result ≡ 0 → Entrywise x xs.now y (λ p q v. S.means v ≡ S.ops.times (S.means q) (S.means p)) ys.old ys.new }
-    ensures refused { (answer result ≢ 0) → ys.new ≡ ys.old }
+    ensures verdict { answer result ≡ first_of (O.pair_tests x (length xs.now) y (length ys.old)) }
+    ensures accepted { OnOk result (O.Entrywise S x xs.now y (λ p q v. S.means v ≡ S.ops.times (S.means q) (S.means p)) ys.old ys.new) }
+    ensures refused { OnErr result (ys.new ≡ ys.old) }
 {
-    zip(Product, x, xs, y, ys)
+    O::zip(Product, x, xs, y, ys)
 }
 
 /// y becomes y / x, entry by entry.
-pub fn component_div_assign<S: Ordered>(
-    x: Column,
+pub fn component_div_assign<S: Ordered, O: Operand>(
+    x: O,
     xs: &[S],
-    y: Column,
+    y: O,
     ys: &mut [S],
 ) -> Result<(), Refusal>
-    ensures verdict { answer result ≡ first_of (pair_tests x (length xs.now) y (length ys.old)) }
-    ensures accepted { answer result ≡ 0 → Entrywise x xs.now y (λ p q v. S.means v ≡ S.order.over (S.means q) (S.means p)) ys.old ys.new }
-    ensures refused { (answer result ≢ 0) → ys.new ≡ ys.old }
+    ensures verdict { answer result ≡ first_of (O.pair_tests x (length xs.now) y (length ys.old)) }
+    ensures accepted { OnOk result (O.Entrywise S x xs.now y (λ p q v. S.means v ≡ S.order.over (S.means q) (S.means p)) ys.old ys.new) }
+    ensures refused { OnErr result (ys.new ≡ ys.old) }
 {
-    zip(Quotient, x, xs, y, ys)
+    O::zip(Quotient, x, xs, y, ys)
 }
 
 /// y becomes y·by.
-pub fn mul_assign<S: Scalar>(by: Scale<S>, y: Column, ys: &mut [S]) -> Result<(), Refusal>
-    ensures verdict { answer result ≡ first_of (column_tests y (length ys.old)) }
-    ensures accepted { answer result ≡ 0 → Revised y (λ q v. S.means v ≡ S.ops.times (S.means q) (S.means by.0)) ys.old ys.new }
-    ensures refused { (answer result ≢ 0) → ys.new ≡ ys.old }
+pub fn mul_assign<S: Scalar, O: Operand>(by: Scale<S>, y: O, ys: &mut [S]) -> Result<(), Refusal>
+    ensures verdict { answer result ≡ first_of (O.tests y (length ys.old)) }
+    ensures accepted { OnOk result (O.Revised S y (λ q v. S.means v ≡ S.ops.times (S.means q) (S.means by.0)) ys.old ys.new) }
+    ensures refused { OnErr result (ys.new ≡ ys.old) }
 {
-    revise(Scaled { by }, y, ys)
+    O::revise(Scaled { by }, y, ys)
 }
 
 /// y becomes y / by: each entry is divided, so 49 by 49 is 1.
-pub fn div_assign<S: Ordered>(by: Scale<S>, y: Column, ys: &mut [S]) -> Result<(), Refusal>
-    ensures verdict { answer result ≡ first_of (column_tests y (length ys.old)) }
-    ensures accepted { answer result ≡ 0 → Revised y (λ q v. S.means v ≡ S.order.over (S.means q) (S.means by.0)) ys.old ys.new }
-    ensures refused { (answer result ≢ 0) → ys.new ≡ ys.old }
+pub fn div_assign<S: Ordered, O: Operand>(by: Scale<S>, y: O, ys: &mut [S]) -> Result<(), Refusal>
+    ensures verdict { answer result ≡ first_of (O.tests y (length ys.old)) }
+    ensures accepted { OnOk result (O.Revised S y (λ q v. S.means v ≡ S.order.over (S.means q) (S.means by.0)) ys.old ys.new) }
+    ensures refused { OnErr result (ys.new ≡ ys.old) }
 {
-    revise(Divided { by }, y, ys)
+    O::revise(Divided { by }, y, ys)
 }

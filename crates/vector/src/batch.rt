@@ -1,5 +1,5 @@
 //! batched_axpy: axpy with a factor for each lane.
-ghost use Rattle.std.specs.Prelude.{◌≡◌, ℕ, ◌+◌, ◌≤◌, length, ◌≢◌, slice_index_or};
+ghost use Rattle.std.specs.Prelude.{◌≡◌, ℕ, ◌+◌, ◌≤◌, length, slice_index_or, OnOk, OnErr};
 ghost use Rattle.scalar.specs.Ops.{Ops};
 ghost use Rattle.shape.specs.Refusals.{answer, first_of};
 ghost use Rattle.shape.specs.Changes.{Changed, RunChanged, InColumn};
@@ -11,26 +11,6 @@ use scalar::{Scalar, Scale};
 use shape::lanes::{lane_for, no_broadcast};
 use shape::{Column, Refusal, refuse_columns};
 
-fn test_batched(
-    factors: Column,
-    factors_len: usize,
-    x: Column,
-    x_len: usize,
-    y: Column,
-    y_len: usize,
-) -> Result<(), Refusal>
-    ensures { answer result ≡ first_of (batched_tests factors factors_len x x_len y y_len) }
-{
-    refuse_columns!(factors, factors_len; x, x_len; y, y_len);
-    if (factors.of.rows != 1) | (x.of.rows != y.of.rows) {
-        return Err(Refusal::Counts);
-    }
-    if (factors.of.lanes != y.of.lanes) | no_broadcast(x.of.lanes, y.of.lanes) {
-        return Err(Refusal::Lanes);
-    }
-    Ok(())
-}
-
 /// The tests, and what acceptance tells.
 fn check_batched(
     factors: Column,
@@ -41,9 +21,16 @@ fn check_batched(
     y_len: usize,
 ) -> Result<(), Refusal>
     ensures verdict { answer result ≡ first_of (batched_tests factors factors_len x x_len y y_len) }
-    ensures lawful { answer result ≡ 0 → BatchedLawful factors factors_len x x_len y y_len }
+    ensures lawful { OnOk result (BatchedLawful factors factors_len x x_len y y_len) }
 {
-    test_batched(factors, factors_len, x, x_len, y, y_len)
+    refuse_columns!(factors, factors_len; x, x_len; y, y_len);
+    if factors.of.rows != 1 || x.of.rows != y.of.rows {
+        return Err(Refusal::Counts);
+    }
+    if factors.of.lanes != y.of.lanes || no_broadcast(x.of.lanes, y.of.lanes) {
+        return Err(Refusal::Lanes);
+    }
+    Ok(())
 }
 
 /// axpy of one lane's runs, lent as whole vectors of one lane.
@@ -104,8 +91,8 @@ pub fn batched_axpy<S: Scalar>(
     ys: &mut [S],
 ) -> Result<(), Refusal>
     ensures verdict { answer result ≡ first_of (batched_tests factors (length fs.now) x (length xs.now) y (length ys.old)) }
-    ensures accepted { answer result ≡ 0 → Changed y.of (InColumn y.col) (batched S.means S.ops factors fs.now x xs.now (S.means b.0) y ys.old) ys.old ys.new }
-    ensures refused { (answer result ≢ 0) → ys.new ≡ ys.old }
+    ensures accepted { OnOk result (Changed y.of (InColumn y.col) (batched S.means S.ops factors fs.now x xs.now (S.means b.0) y ys.old) ys.old ys.new) }
+    ensures refused { OnErr result (ys.new ≡ ys.old) }
 {
     check_batched(factors, fs.len(), x, xs.len(), y, ys.len())?;
     batched_lanes(factors, fs, x, xs, b, y, ys);

@@ -12,5 +12,5 @@ pub use arithmetic::{
     sub_into,
 };
 pub use batch::batched_axpy;
-pub use combine::axpy;
+pub use combine::{axpy, gain};
 pub use store::{copy_from, fill};

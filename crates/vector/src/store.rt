@@ -1,27 +1,25 @@
-//! Entries stored as they are: a copy, and one value for all.
-ghost use Rattle.std.specs.Prelude.{◌≡◌, length, ◌≢◌};
+//! Entries stored as they are, in columns or in whole tables: a copy, and one value for all.
+ghost use Rattle.std.specs.Prelude.{◌≡◌, length, OnOk, OnErr};
 ghost use Rattle.shape.specs.Refusals.{answer, first_of};
-ghost use Rattle.shape.specs.Operands.{column_tests, pair_tests};
-ghost use Rattle.elementwise.specs.Entrywise.{Entrywise, Revised};
 
-use elementwise::{Fill, Replace, revise, zip};
+use elementwise::{Fill, Operand, Replace};
 use scalar::Scalar;
-use shape::{Column, Refusal};
+use shape::Refusal;
 
 /// y becomes x, stored value by stored value.
-pub fn copy_from<S: Scalar>(x: Column, xs: &[S], y: Column, ys: &mut [S]) -> Result<(), Refusal>
-    ensures verdict { answer result ≡ first_of (pair_tests x (length xs.now) y (length ys.old)) }
-    ensures accepted { answer result ≡ 0 → Entrywise x xs.now y (λ p q v. v ≡ p) ys.old ys.new }
-    ensures refused { (answer result ≢ 0) → ys.new ≡ ys.old }
+pub fn copy_from<S: Scalar, O: Operand>(x: O, xs: &[S], y: O, ys: &mut [S]) -> Result<(), Refusal>
+    ensures verdict { answer result ≡ first_of (O.pair_tests x (length xs.now) y (length ys.old)) }
+    ensures accepted { OnOk result (O.Entrywise S x xs.now y (λ p q v. v ≡ p) ys.old ys.new) }
+    ensures refused { OnErr result (ys.new ≡ ys.old) }
 {
-    zip(Replace, x, xs, y, ys)
+    O::zip(Replace, x, xs, y, ys)
 }
 
 /// Every entry becomes `value`.
-pub fn fill<S: Scalar>(value: S, y: Column, ys: &mut [S]) -> Result<(), Refusal>
-    ensures verdict { answer result ≡ first_of (column_tests y (length ys.old)) }
-    ensures accepted { answer result ≡ 0 → Revised y (λ q v. v ≡ value) ys.old ys.new }
-    ensures refused { (answer result ≢ 0) → ys.new ≡ ys.old }
+pub fn fill<S: Scalar, O: Operand>(value: S, y: O, ys: &mut [S]) -> Result<(), Refusal>
+    ensures verdict { answer result ≡ first_of (O.tests y (length ys.old)) }
+    ensures accepted { OnOk result (O.Revised S y (λ q v. v ≡ value) ys.old ys.new) }
+    ensures refused { OnErr result (ys.new ≡ ys.old) }
 {
-    revise(Fill { value }, y, ys)
+    O::revise(Fill { value }, y, ys)
 }

@@ -1,6 +1,6 @@
-use Rattle.std.proofs.Common.{sym, ◌∙◌}
+use Rattle.std.proofs.Common.{rules}
 use Rattle.table.proofs.Tested.{three_passed}
 use Rattle.table.proofs.check.check_three.Goals as goal
 
-pub returns : goal.returns
-returns c = record { verdict = c.test_three.ensures; lawful = λ e. three_passed _ _ _ _ _ _ (sym c.test_three.ensures ∙ e) }
+pub returns-4-clause-lawful : goal.returns-4-clause-lawful
+returns-4-clause-lawful c = three_passed _ _ _ _ _ _ (search rules)

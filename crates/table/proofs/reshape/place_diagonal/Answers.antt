@@ -1,3 +1,4 @@
+use Rattle.shape.proofs.Answered.{on_ok}
 use Rattle.std.proofs.Common.{length, ◌∙◌, arith}
 use Rattle.shape.specs.Shapes.{column_of, Fits}
 use Rattle.shape.proofs.Passes.{shape_passes}
@@ -11,7 +12,7 @@ loop-i-init g c =
     let t = c.args.t in
     let old = c.args.ts.now in
     placed_none s.means s.ops c.args.v c.args.vs.now t c.zero.result old c.fill.new.ys c.zero.ensures
-    (c.fill.ensures.accepted (c.fill.ensures.verdict ∙ shape_passes t (length old) c.requires.target))
+    (on_ok c.fill.result c.fill.ensures.accepted (c.fill.ensures.verdict ∙ shape_passes t (length old) c.requires.target))
 
 pub loop-i-preserved : goal.loop-i-preserved
 loop-i-preserved g c =
@@ -24,8 +25,9 @@ loop-i-preserved g c =
     let h = c.loop-i-test.true in
     let in-t : Fits t (length cur) = rw (c.loop-i.auto.ts, c.fill.auto.ys) c.requires.target in
     let passes = copy_passes v (length vs) (column_of t i) (length cur) i c.requires.source (record { fits = in-t; within = h }) (omega (arith, c.requires.cols)) (omega (arith, c.requires.rows, c.requires.cols)) c.requires.lanes in
+    let wrote = rw c.column.ensures at c.copy_from_indices.ensures in
     placed_more s.means s.ops v vs t (length vs) (length c.args.ts.now) i cur c.copy_from_indices.new.ys c.requires c.loop-i.invariant
-    (c.copy_from_indices.ensures.accepted (c.copy_from_indices.ensures.verdict ∙ passes))
+    (on_ok _ wrote.accepted (wrote.verdict ∙ passes))
 
 pub returns : goal.returns
 returns g c =

@@ -1,3 +1,4 @@
+use Rattle.shape.proofs.Answered.{on_ok}
 use Rattle.std.proofs.Common.{◌≡◌, sym, ◌∙◌, arith}
 use Rattle.std.proofs.lemmas.List.{get_or_default}
 use Rattle.shape.proofs.Parts.{part_get, length_part, part_changed}
@@ -17,7 +18,7 @@ returns g c =
     let second = length_part ys to n c.requires.target in
     part_changed to n _ ys c.axpy.new.ys c.requires.target (c.axpy.auto.ys ∙ second)
     (λ i e h d.
-    let made = one_lane (λ p q v. s.means v ≡ blend s.ops (s.means c.args.a.0) (s.means p) (s.means c.args.b.0) (s.means q)) c.vector-lane.result n _ _ _ c.axpy.new.ys c.vector-lane.ensures c.requires.few first second c.axpy.ensures.verdict c.axpy.ensures.accepted i d h in
+    let made = one_lane (λ p q v. s.means v ≡ blend s.ops (s.means c.args.a.0) (s.means p) (s.means c.args.b.0) (s.means q)) c.vector-lane.result n _ _ _ c.axpy.new.ys c.vector-lane.ensures c.requires.few first second c.axpy.ensures.verdict (on_ok c.axpy.result c.axpy.ensures.accepted) i d h in
     let x = part_get from n i xs d c.requires.source h in
     let y = part_get to n i ys d c.requires.target h in
     let v = get_or_default c.axpy.new.ys i e d (omega (arith, c.axpy.auto.ys)) in

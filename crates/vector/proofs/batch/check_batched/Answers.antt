@@ -1,6 +1,6 @@
-use Rattle.std.proofs.Common.{sym, ◌∙◌}
+use Rattle.std.proofs.Common.{rules}
 use Rattle.vector.proofs.Tested.{batched_passed}
 use Rattle.vector.proofs.batch.check_batched.Goals as goal
 
-pub returns : goal.returns
-returns c = record { verdict = c.test_batched.ensures; lawful = λ e. batched_passed _ _ _ _ _ _ (sym c.test_batched.ensures ∙ e) }
+pub returns-5-clause-lawful : goal.returns-5-clause-lawful
+returns-5-clause-lawful c = batched_passed c.args.factors c.args.factors_len c.args.x c.args.x_len c.args.y c.args.y_len (search rules)
