@@ -1,6 +1,7 @@
 -- The transposes of gather and scatter entry by entry. Assumes nothing.
 use Rattle.std.proofs.Common.{◌≡◌, ℕ, suc, ◌+◌, ◌<◌, ◌≤◌, cond, List, [], ◌∷◌, length, get_or, drop, set, sym, refl, ap, ◌∙◌, ap₂, inl, inr, add-one, arith, drop-cons, eq-eqb, ne_eqb}
-use Rattle.std.proofs.lemmas.List.{get_or-set_same, get_or-set_other, length-drop, get_or-drop, at_drop_all}
+use Rattle.std.specs.List.{push}
+use Rattle.std.proofs.lemmas.List.{get_or_read, length_push, get_or_push, get_or_append_left, get_or-set_same, get_or-set_other, length-drop, get_or-drop, at_drop_all}
 use Rattle.std.proofs.lemmas.Bool.{cases_eq}
 use Rattle.scalar.specs.Ops.{Ops}
 use Rattle.index.specs.Indices.{Inside}
@@ -78,10 +79,23 @@ pub record ScatteringBack {S M : Type 0} (means : S → M) (o : Ops M) (list : L
   pub first : (l : ℕ) (d : S) → l < length p₀ → means (get_or p l d) ≡ (scattered_back o (drop i list) i (λ j. means (get_or p₀ j d)) (λ k. means (get_or q₀ k d))).0 l
   pub second : (l : ℕ) (d : S) → l < length q₀ → means (get_or q l d) ≡ (scattered_back o (drop i list) i (λ j. means (get_or p₀ j d)) (λ k. means (get_or q₀ k d))).1 l
 
-module _ {S M : Type 0} (means : S → M) (o : Ops M) (list : List ℕ) where
-  pub gathering_none : (p old : List S) → GatheringBack means o list p old old 0
-  gathering_none p old = record { row = λ l d h. refl }
+-- what an iterator that goes from the end has left of the list: its first entries
+pub record Front (list rest : List ℕ) : Type 0 where
+  pub short : length rest ≤ length list
+  pub same : (j : ℕ) → j < length rest → get_or rest j 0 ≡ get_or list j 0
 
+pub front_less : (list all rest : List ℕ) (k : ℕ) → all ≡ push rest k → Front list all → Front list rest
+front_less list all rest k e front = record {
+  short = omega (arith, ap length e ∙ length_push rest k, front.short);
+  same = λ j h. sym (ap (λ z. get_or z j 0) e ∙ get_or_append_left rest (k ∷ []) 0 j h) ∙ front.same j (omega (arith, ap length e ∙ length_push rest k));
+}
+
+pub front_last : (list all rest : List ℕ) (k : ℕ) → all ≡ push rest k → Front list all → (length rest < length list) × (k ≡ get_or list (length rest) 0)
+front_last list all rest k e front =
+    let long = ap length e ∙ length_push rest k in
+    (omega (arith, long, front.short), sym (ap (λ z. get_or z (length rest) 0) e ∙ get_or_push rest k 0 (length rest) refl) ∙ front.same (length rest) (omega (arith, long)))
+
+module _ {S M : Type 0} (means : S → M) (o : Ops M) (list : List ℕ) where
   pub gathering_more : (p old cur : List S) (i : ℕ) (v : S) → i < length list → length cur ≡ length old → Inside (length old) list
       → ((d : S) → means v ≡ o.plus (means (get_or cur (get_or list i 0) d)) (means (get_or p i d)))
       → GatheringBack means o list p old cur i → GatheringBack means o list p old (set cur (get_or list i 0) v) (i + 1)
@@ -102,12 +116,6 @@ module _ {S M : Type 0} (means : S → M) (o : Ops M) (list : List ℕ) where
       → (l : ℕ) (d : S) → l < length old → means (get_or cur l d) ≡ gathered_back o list 0 (λ j. means (get_or p j d)) (λ k. means (get_or old k d)) l
   gathering_all p old cur i end done l d h =
       sym (at_drop_all (λ ks. gathered_back o ks i (λ j. means (get_or p j d)) (λ k. means (get_or cur k d)) l) list i end) ∙ done.row l d h
-
-  pub scattering_none : (p q : List S) (n : ℕ) → length list ≤ n → ScatteringBack means o list p p q q n
-  scattering_none p q n end = record {
-    first = λ l d h. sym (at_drop_all (λ ks. (scattered_back o ks n (λ j. means (get_or p j d)) (λ k. means (get_or q k d))).0 l) list n end);
-    second = λ l d h. sym (at_drop_all (λ ks. (scattered_back o ks n (λ j. means (get_or p j d)) (λ k. means (get_or q k d))).1 l) list n end);
-  }
 
   pub scattering_more : (p₀ p q₀ q : List S) (m n : ℕ) (v z : S) → n ≡ suc m → m < length list → length list ≡ length p₀ → length p ≡ length p₀ → length q ≡ length q₀ → Inside (length q₀) list
       → ((d : S) → means v ≡ o.plus (means (get_or p m d)) (means (get_or q (get_or list m 0) d))) → means z ≡ o.zero
@@ -144,3 +152,37 @@ module _ {S M : Type 0} (means : S → M) (o : Ops M) (list : List ℕ) where
                   ∙ sym (ap (λ ks. (scattered_back o ks m P Q).1 l) (drop-cons list m 0 h) ∙ put_there w.1 k o.zero l apart)
             ];
       }
+
+-- the list is gone through from its end: what is left of it are its first entries, and those after them have been carried back
+pub record Returning {S M : Type 0} (means : S → M) (o : Ops M) (list : List ℕ) (p₀ p q₀ q : List S) (count : ℕ) (rest : List ℕ) : Type 0 where
+  pub from_start : count ≡ 0
+  pub front : Front list rest
+  pub back : ScatteringBack means o list p₀ p q₀ q (length rest)
+
+-- the entry before them names a row
+pub returning_within : {S M : Type 0} (means : S → M) (o : Ops M) (list : List ℕ) (p₀ p q₀ q : List S) (count k : ℕ) (all rest : List ℕ)
+    → Returning means o list p₀ p q₀ q count all → all ≡ push rest k → Inside (length q₀) list → k < length q₀
+returning_within means o list p₀ p q₀ q count k all rest so next inside = let last = front_last list all rest k next so.front in rw last.1 (inside (length rest) last.0)
+
+-- it is carried back, and left no more
+pub returning_more : {S M : Type 0} (means : S → M) (o : Ops M) (list : List ℕ) (p₀ p q₀ q : List S) (count count' i k : ℕ) (all rest : List ℕ) (pi qk v z : S)
+    → Returning means o list p₀ p q₀ q count all → (count' ≡ count) × (all ≡ push rest k × i ≡ count + length rest × i + 1 < 18446744073709551616)
+    → length list ≡ length p₀ → Inside (length q₀) list → length p ≡ length p₀ → length q ≡ length q₀
+    → pi ≡ get_or p i pi → qk ≡ get_or q k qk → means v ≡ o.plus (means pi) (means qk) → means z ≡ o.zero
+    → Returning means o list p₀ (set p i v) q₀ (set q k z) count' rest
+returning_more means o list p₀ p q₀ q count count' i k all rest pi qk v z so next long inside lp lq at_p at_q sum none =
+    let n = length rest in
+    let last = front_last list all rest k next.1.0 so.front in
+    let at_i : i ≡ n = omega (arith, next.1.1, so.from_start) in
+    let within : k < length q₀ = rw last.1 (inside n last.0) in
+    let more = scattering_more means o list p₀ p q₀ q n (length all) v z (omega (arith, ap length next.1.0 ∙ length_push rest k)) last.0 long lp lq inside
+    (λ d.
+    let a = get_or_read p i pi (omega (arith, last.0)) at_p d in
+    let b = get_or_read q k qk (omega arith) at_q d in
+    rw (← last.1, ← at_i) (sum ∙ ap₂ o.plus (ap means a) (ap means b)))
+    none so.back in
+    record {
+      from_start = next.0 ∙ so.from_start;
+      front = front_less list all rest k next.1.0 so.front;
+      back = rw (at_i, last.1) more;
+    }

@@ -1,21 +1,14 @@
 -- What an accepted index call on tables knows of its operands and its lists. Assumes nothing.
-use Rattle.std.proofs.Common.{◌≡◌, ℕ, ◌<◌, ◌≤◌, ltb, List, length, get_or, refl, arith}
+use Rattle.std.proofs.Common.{◌≡◌, ℕ, ◌<◌, ◌≤◌, List, length, get_or, refl, arith}
 use Rattle.std.proofs.lemmas.List.{length-take, get_or-take}
-use Rattle.std.proofs.lemmas.Bool.{or_parts, ltb-false, leb-false}
+use Rattle.std.proofs.lemmas.Bool.{or_parts, leb-false}
 use Rattle.shape.specs.Refusals.{first_of}
 use Rattle.shape.specs.declared.operand.TableShape.{TableShape}
 use Rattle.shape.specs.declared.operand.Column.{Column}
 use Rattle.shape.proofs.Verdicts.{clear, shapes_clear}
 use Rattle.index.specs.Indices.{outside}
-use Rattle.index.specs.Tables.{lane_cells, paired, cells_tests, CellsLawful, pairs_tests, PairsLawful}
+use Rattle.index.specs.Tables.{lane_cells, paired, pairs_tests, PairsLawful}
 use Rattle.index.proofs.Tested.{inside_of}
-
-pub cells_passed : (x : TableShape) (xl : ℕ) (list : List ℕ) (t : TableShape) (tl : ℕ) → first_of (cells_tests x xl list t tl) ≡ 0 → CellsLawful x xl list t tl
-cells_passed x xl list t tl e =
-    let p = clear (cells_tests x xl list t tl) refl e in
-    let fit = shapes_clear x xl t tl p.0 p.1.0 p.1.1.0 in
-    let q = or_parts (ltb (lane_cells t) (length list)) (outside (lane_cells x) list) p.1.1.1.1.0 in
-    record { source = fit.0; target = fit.1; short = ltb-false (lane_cells t) (length list) q.0; inside = inside_of (lane_cells x) list q.1 }
 
 -- two lists of pairs are cut to the same length
 pub pairs_long : (a b : List ℕ) → length (paired a b) ≤ length b

@@ -5,7 +5,7 @@ use Rattle.shape.specs.Shapes.{start, cell, In, Fits}
 use Rattle.shape.specs.Changes.{Changed, RunChanged}
 use Rattle.shape.specs.declared.operand.TableShape.{TableShape}
 use Rattle.shape.proofs.Blocks.{band_fits, band_apart, cell_from}
-use Rattle.shape.proofs.Cells.{changed_none, changed_more, changed_as}
+use Rattle.shape.proofs.Cells.{changed_more}
 use Rattle.index.specs.Tables.{lane_cells, InFirst}
 
 -- the cells of lane b lie in the memory
@@ -46,9 +46,6 @@ module _ {S : Type 0} (t : TableShape) (n : ℕ) where
       past_of : (p : ℕ) → (p < n → ⊥) → n ≤ p
       past_of p h = omega arith
 
-  pub firsts_none : (P : ℕ → ℕ → ℕ → S → Type 0) (old : List S) → Changed t (LanesFirst 0 t.rows n) P old old
-  firsts_none P old = changed_none t (LanesFirst 0 t.rows n) P old (λ b j i h. omega arith)
-
   pub firsts_more : (l a : ℕ) (P : ℕ → ℕ → ℕ → S → Type 0) (Q : ℕ → S → Type 0) (old cur cur' : List S) → a ≡ start t l 0 → n ≤ lane_cells t
       → ((j i : ℕ) (v : S) → In t l j i → InFirst t.rows n l j i → Q (j * t.rows + i) v → P l j i v)
       → Changed t (LanesFirst l t.rows n) P old cur → RunChanged a n Q cur cur' → Changed t (LanesFirst (l + 1) t.rows n) P old cur'
@@ -60,7 +57,3 @@ module _ {S : Type 0} (t : TableShape) (n : ℕ) where
       (λ b j i v w h q. rw h.0 (agree j i v (record { lane = omega (arith, w.lane); col = w.col; row = w.row }) h.1 q))
       before
       (run_changed l a Q cur cur' at_a short wrote)
-
-  pub firsts_all : (l : ℕ) (P : ℕ → ℕ → ℕ → S → Type 0) (old cur : List S) → t.lanes ≤ l → Changed t (LanesFirst l t.rows n) P old cur → Changed t (InFirst t.rows n) P old cur
-  firsts_all l P old cur end done =
-      changed_as t (LanesFirst l t.rows n) (InFirst t.rows n) P P old cur (λ b j i w h. h.1) (λ b j i w h. (omega (arith, w.lane), h)) (λ b j i v w h q. q) done

@@ -1,9 +1,10 @@
 -- A list gone through entry by entry: what one more entry leaves. Assumes nothing.
-use Rattle.std.proofs.Common.{◌≡◌, ℕ, suc, ◌+◌, ◌<◌, ◌≤◌, cond, eqb, List, [], ◌∷◌, ◌++◌, length, get_or, take, set, sym, refl, ap, ◌∙◌, inl, inr, arith, take_all, eq-eqb, ne_eqb}
+use Rattle.std.proofs.Common.{◌≡◌, ℕ, suc, ◌+◌, ◌<◌, ◌≤◌, cond, eqb, List, [], ◌∷◌, ◌++◌, length, get_or, take, set, sym, refl, ap, ◌∙◌, inl, inr, subst, arith, take_all, eq-eqb, ne_eqb}
 use Rattle.std.proofs.lemmas.List.{take_more, get_or-set_same, get_or-set_other, length-take}
 use Rattle.std.proofs.lemmas.Bool.{cases_eq}
+use Rattle.shape.proofs.Parts.{Filled, filled_more}
 use Rattle.index.specs.Indices.{settled}
-use Rattle.index.specs.Routes.{became, Ready}
+use Rattle.index.specs.Routes.{became, Ready, pair_of}
 use Rattle.index.specs.declared.route.Route.{Route}
 use Rattle.index.specs.declared.route.Route.TheVariants.{Gather, Scatter, Copy}
 
@@ -38,9 +39,6 @@ pub record Settling {S : Type 0} (u : S → ℕ → S) (list : List ℕ) (old cu
   pub row : (k : ℕ) (d : S) → k < length old → get_or cur k d ≡ settled (take i list) 0 k (u d) (get_or old k d)
 
 module _ {S : Type 0} (u : S → ℕ → S) (list : List ℕ) (old : List S) where
-  pub settling_none : Settling u list old old 0
-  settling_none = record { row = λ k d h. refl }
-
   pub settling_more : (cur : List S) (i : ℕ) (v : S) → i < length list → length cur ≡ length old → get_or list i 0 < length cur → ((d : S) → v ≡ u d i)
       → Settling u list old cur i → Settling u list old (set cur (get_or list i 0) v) (i + 1)
   settling_more cur i v h long within is before = record {
@@ -56,3 +54,38 @@ module _ {S : Type 0} (u : S → ℕ → S) (list : List ℕ) (old : List S) whe
 
   pub settling_all : (cur : List S) (i : ℕ) → length list ≤ i → Settling u list old cur i → (k : ℕ) (d : S) → k < length old → get_or cur k d ≡ settled list 0 k (u d) (get_or old k d)
   settling_all cur i end done k d h = done.row k d h ∙ ap (λ l. settled l 0 k (u d) (get_or old k d)) (take_all i list end)
+
+-- after the first i entries, by the route: of a gather these rows are done, of the others every row is settled
+abbrev pub Routing : {S : Type 0} → Route → (S → ℕ → S) → List ℕ → List S → List S → ℕ → Type 0
+Routing {S = S} Gather u list old cur i = Filled (λ k v. (d : S) → v ≡ u d (get_or list k 0)) old cur i
+Routing Scatter u list old cur i = Settling u list old cur i
+Routing Copy u list old cur i = Settling (λ d p. u d (get_or list p 0)) list old cur i
+
+-- the rows of entry i exist
+pair_within : (route : Route) (list : List ℕ) (m n i : ℕ) → Ready route list m n → i < length list
+    → ((pair_of route i (get_or list i 0)).0 < m) × ((pair_of route i (get_or list i 0)).1 < n)
+pair_within Gather list m n i ready h = (ready.1 i h, omega (arith, ready.0))
+pair_within Scatter list m n i ready h = (omega (arith, ready.0), ready.1 i h)
+pair_within Copy list m n i ready h = (ready.0 i h, ready.1 i h)
+
+pub rows_within : (route : Route) (list : List ℕ) (m n i : ℕ) (rows : ℕ × ℕ) → rows ≡ pair_of route i (get_or list i 0) → Ready route list m n → i < length list → (rows.0 < m) × (rows.1 < n)
+rows_within route list m n i rows e ready h = subst (λ (r : ℕ × ℕ). (r.0 < m) × (r.1 < n)) (sym e) (pair_within route list m n i ready h)
+
+module _ {S : Type 0} (u : S → ℕ → S) (list : List ℕ) (old : List S) where
+  routing_pair : (route : Route) (cur : List S) (i : ℕ) (v : S) → i < length list → length cur ≡ length old → (pair_of route i (get_or list i 0)).1 < length cur
+      → ((d : S) → v ≡ u d (pair_of route i (get_or list i 0)).0) → Routing route u list old cur i → Routing route u list old (set cur (pair_of route i (get_or list i 0)).1 v) (i + 1)
+  routing_pair Gather cur i v h long within is before = filled_more _ old cur i v before within is
+  routing_pair Scatter cur i v h long within is before = settling_more u list old cur i v h long within is before
+  routing_pair Copy cur i v h long within is before = settling_more (λ d p. u d (get_or list p 0)) list old cur i v h long within is before
+
+  pub routing_more : (route : Route) (rows : ℕ × ℕ) (cur : List S) (i : ℕ) (v : S) → rows ≡ pair_of route i (get_or list i 0) → i < length list → length cur ≡ length old → rows.1 < length cur
+      → ((d : S) → v ≡ u d rows.0) → Routing route u list old cur i → Routing route u list old (set cur rows.1 v) (i + 1)
+  routing_more route rows cur i v e h long within is before =
+      subst (λ (r : ℕ × ℕ). r.1 < length cur → ((d : S) → v ≡ u d r.0) → Routing route u list old (set cur r.1 v) (i + 1)) (sym e)
+      (λ within is. routing_pair route cur i v h long within is before) within is
+
+  pub routing_all : (route : Route) (m : ℕ) (cur : List S) (i : ℕ) → Ready route list m (length old) → length list ≤ i → Routing route u list old cur i
+      → (k : ℕ) (d : S) → k < length old → get_or cur k d ≡ became route list (u d) (get_or old k d) k
+  routing_all Gather m cur i ready end done k d h = done.done k d (omega (arith, ready.0)) d
+  routing_all Scatter m cur i ready end done k d h = settling_all u list old cur i end done k d h
+  routing_all Copy m cur i ready end done k d h = settling_all (λ d p. u d (get_or list p 0)) list old cur i end done k d h

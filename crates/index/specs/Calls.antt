@@ -6,7 +6,7 @@ use Rattle.shape.specs.Operands.{column_tests, two_tests}
 use Rattle.shape.specs.Changes.{Changed, InColumn}
 use Rattle.shape.specs.declared.operand.Column.{Column}
 use Rattle.index.specs.Indices.{outside, Inside, settled}
-use Rattle.index.specs.Routes.{became, Ready}
+use Rattle.index.specs.Routes.{became, Ready, wrong_length, beyond}
 use Rattle.index.specs.declared.route.Route.{Route}
 
 -- row k of column x, of the lane that lane b of y reads, at any default
@@ -42,6 +42,14 @@ scatter_tests x xl list y yl =
 abbrev pub copy_tests : Column → ℕ → List ℕ → Column → ℕ → List (ℕ × Bool)
 copy_tests x xl list y yl =
     two_tests x xl y yl ++ ((8, no_broadcast x.of.lanes y.of.lanes) ∷ (10, outside x.of.rows list || outside y.of.rows list) ∷ [])
+
+-- the three as one: a copy tests no length, and its test of that never fits
+abbrev pub route_tests : Route → Column → ℕ → List ℕ → Column → ℕ → List (ℕ × Bool)
+route_tests route x xl list y yl =
+    two_tests x xl y yl
+    ++ ((8, no_broadcast x.of.lanes y.of.lanes)
+    ∷ (9, wrong_length route (length list) x.of.rows y.of.rows)
+    ∷ (10, beyond route list x.of.rows y.of.rows) ∷ [])
 
 abbrev pub assign_tests : List ℕ → Column → ℕ → List (ℕ × Bool)
 assign_tests list y yl = column_tests y yl ++ ((10, outside y.of.rows list) ∷ [])

@@ -1,5 +1,5 @@
 -- What the index calls on tables answer and write: a list names cells of a lane, from the lane's start on. Assumes nothing.
-use Rattle.std.specs.Prelude.{◌≡◌, ℕ, ◌+◌, ◌*◌, ◌<◌, ◌≤◌, Bool, ◌||◌, List, [], ◌∷◌, ◌++◌, length, get_or, take, nat_lt, slice_index, slice_index_or}
+use Rattle.std.specs.Prelude.{◌≡◌, ℕ, ◌+◌, ◌*◌, ◌<◌, ◌≤◌, Bool, ◌||◌, List, [], ◌∷◌, ◌++◌, length, take, nat_lt, slice_index, slice_index_or}
 use Rattle.shape.specs.Shapes.{start, cell, no_column, Fits, Lawful}
 use Rattle.shape.specs.Lanes.{lane_for, no_broadcast}
 use Rattle.shape.specs.Operands.{shapes_tests}
@@ -33,7 +33,7 @@ paired a b = take (length b) a
 abbrev pub SetByPairs : {S : Type 0} → List ℕ → List ℕ → Column → List S → TableShape → List S → List S → Type 0
 SetByPairs {S = S} dst src v vs t old cur =
     Changed t Everywhere
-    (λ b j i w. (d : S) → w ≡ settled (paired dst src) 0 (j * t.rows + i) (λ p. get_or vs (cell v.of (lane_for b v.of.lanes t.lanes) v.col (slice_index src p)) d) (slice_index_or old (cell t b j i) d)) old cur
+    (λ b j i w. (d : S) → w ≡ settled (paired dst src) 0 (j * t.rows + i) (λ p. slice_index_or vs (cell v.of (lane_for b v.of.lanes t.lanes) v.col (slice_index src p)) d) (slice_index_or old (cell t b j i) d)) old cur
 
 -- ---- the tests
 

@@ -1,5 +1,5 @@
 -- The transposes of gather and scatter: what they make of two columns of weights, and when. Assumes nothing.
-use Rattle.std.specs.Prelude.{◌≡◌, ℕ, suc, Bool, cond, not, List, [], ◌∷◌, ◌++◌, length, ◌==◌, slice_index_or}
+use Rattle.std.specs.Prelude.{◌≡◌, ℕ, suc, Bool, not, List, [], ◌∷◌, ◌++◌, length, ◌==◌, slice_index_or, if◌then◌else◌}
 use Rattle.scalar.specs.Ops.{Ops}
 use Rattle.shape.specs.Shapes.{cell, Lawful}
 use Rattle.shape.specs.Operands.{two_tests}
@@ -9,7 +9,7 @@ use Rattle.index.specs.Indices.{outside, Inside}
 
 -- f with x at the place k
 abbrev pub put : {A : Type 0} → (ℕ → A) → ℕ → A → ℕ → A
-put f k x l = cond (k == l) x (f l)
+put f k x l = if k == l then x else f l
 
 module _ {M : Type 0} (o : Ops M) where
   -- q after each entry of the list, from place i on, has added row i of p to the row that it names

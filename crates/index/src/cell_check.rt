@@ -1,5 +1,5 @@
 //! The tests of the index calls on tables.
-ghost use Rattle.std.specs.Prelude.{◌≡◌, ℕ, Bool, false, length, nat_lt};
+ghost use Rattle.std.specs.Prelude.{◌≡◌, false, length, nat_lt, OnOk};
 ghost use Rattle.shape.specs.Shapes.{too_large};
 ghost use Rattle.shape.specs.Refusals.{answer, first_of};
 ghost use Rattle.index.specs.Indices.{outside};
@@ -42,25 +42,6 @@ fn has_outside_lane(list: &[usize], t: TableShape) -> bool
     has_outside(list, lane_cells(t))
 }
 
-fn test_cells(
-    x: TableShape,
-    x_len: usize,
-    list: &[usize],
-    t: TableShape,
-    t_len: usize,
-) -> Result<(), Refusal>
-    ensures { answer result ≡ first_of (cells_tests x x_len list.now t t_len) }
-{
-    refuse_shapes!(x, x_len; t, t_len);
-    if no_broadcast(x.lanes, t.lanes) {
-        return Err(Refusal::Lanes);
-    }
-    if longer_than_lane(list, t) | has_outside_lane(list, x) {
-        return Err(Refusal::Index);
-    }
-    Ok(())
-}
-
 /// The tests of `gather` on tables, and what acceptance tells.
 pub(crate) fn check_cells(
     x: TableShape,
@@ -70,31 +51,13 @@ pub(crate) fn check_cells(
     t_len: usize,
 ) -> Result<(), Refusal>
     ensures verdict { answer result ≡ first_of (cells_tests x x_len list.now t t_len) }
-    ensures lawful { answer result ≡ 0 → CellsLawful x x_len list.now t t_len }
+    ensures lawful { OnOk result (CellsLawful x x_len list.now t t_len) }
 {
-    test_cells(x, x_len, list, t, t_len)
-}
-
-fn test_pairs(
-    dst: &[usize],
-    src: &[usize],
-    v: Column,
-    v_len: usize,
-    t: TableShape,
-    t_len: usize,
-) -> Result<(), Refusal>
-    ensures { answer result ≡ first_of (pairs_tests dst.now src.now v v_len t t_len) }
-{
-    refuse_shapes!(v.of, v_len; t, t_len);
-    if no_column(v) {
-        return Err(Refusal::NoColumn);
-    }
-    if no_broadcast(v.of.lanes, t.lanes) {
+    refuse_shapes!(x, x_len; t, t_len);
+    if no_broadcast(x.lanes, t.lanes) {
         return Err(Refusal::Lanes);
     }
-    if has_outside_lane(with_partner(dst, src), t)
-        | has_outside(with_partner(src, dst), v.of.rows)
-    {
+    if longer_than_lane(list, t) || has_outside_lane(list, x) {
         return Err(Refusal::Index);
     }
     Ok(())
@@ -110,7 +73,19 @@ pub(crate) fn check_pairs(
     t_len: usize,
 ) -> Result<(), Refusal>
     ensures verdict { answer result ≡ first_of (pairs_tests dst.now src.now v v_len t t_len) }
-    ensures lawful { answer result ≡ 0 → PairsLawful dst.now src.now v v_len t t_len }
+    ensures lawful { OnOk result (PairsLawful dst.now src.now v v_len t t_len) }
 {
-    test_pairs(dst, src, v, v_len, t, t_len)
+    refuse_shapes!(v.of, v_len; t, t_len);
+    if no_column(v) {
+        return Err(Refusal::NoColumn);
+    }
+    if no_broadcast(v.of.lanes, t.lanes) {
+        return Err(Refusal::Lanes);
+    }
+    if has_outside_lane(with_partner(dst, src), t)
+        || has_outside(with_partner(src, dst), v.of.rows)
+    {
+        return Err(Refusal::Index);
+    }
+    Ok(())
 }

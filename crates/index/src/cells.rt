@@ -1,5 +1,5 @@
 //! The index calls on tables: a list names cells of a lane, from the lane's start on.
-ghost use Rattle.std.specs.Prelude.{◌≡◌, ℕ, ◌+◌, ◌<◌, ◌≤◌, length, get_or, ◌≢◌, slice_index, slice_index_or};
+ghost use Rattle.std.specs.Prelude.{◌≡◌, ℕ, ◌+◌, ◌<◌, ◌≤◌, length, slice_index, slice_index_or, OnOk, OnErr};
 ghost use Rattle.shape.specs.Refusals.{answer, first_of};
 ghost use Rattle.shape.specs.Changes.{RunChanged};
 ghost use Rattle.index.specs.Indices.{Inside, settled};
@@ -10,23 +10,15 @@ use crate::lanes::route_part;
 use crate::route::Route;
 use scalar::Scalar;
 use shape::lanes::lane_for;
-use shape::{Band, Column, Refusal, TableShape};
+use shape::{Column, Refusal, TableShape};
 
 /// The lanes of an accepted call: of a destination's lane the run that the list fills.
 fn gather_lanes<S: Copy>(x: TableShape, xs: &[S], list: &[usize], t: TableShape, ts: &mut [S])
     requires { CellsLawful x (length xs.now) list.now t (length ts.old) }
     ensures { Gathered x xs.now list.now t ts.old ts.new }
 {
-    let source = Band {
-        of: x,
-        first: 0,
-        count: x.cols,
-    };
-    let target = Band {
-        of: t,
-        first: 0,
-        count: t.cols,
-    };
+    let source = x.band();
+    let target = t.band();
     for lane in 0..t.lanes {
         let from = source.start(lane_for(lane, x.lanes, t.lanes));
         route_part(
@@ -52,8 +44,8 @@ pub fn gather<S: Scalar>(
     ts: &mut [S],
 ) -> Result<(), Refusal>
     ensures verdict { answer result ≡ first_of (cells_tests x (length xs.now) list.now t (length ts.old)) }
-    ensures accepted { answer result ≡ 0 → Gathered x xs.now list.now t ts.old ts.new }
-    ensures refused { (answer result ≢ 0) → ts.new ≡ ts.old }
+    ensures accepted { OnOk result (Gathered x xs.now list.now t ts.old ts.new) }
+    ensures refused { OnErr result (ts.new ≡ ts.old) }
 {
     check_cells(x, xs.len(), list, t, ts.len())?;
     gather_lanes(x, xs, list, t, ts);
@@ -64,10 +56,10 @@ fn set_run<S: Copy>(dst: &[usize], src: &[usize], x: &[S], y: &mut [S])
     requires pairs { length dst.now ≤ length src.now }
     requires inside { Inside (length y.old) dst.now }
     requires rows { (p : ℕ) → p < length dst.now → slice_index src.now p < length x.now }
-    ensures { (k : ℕ) (d : S) → k < length y.old → slice_index_or y.new k d ≡ settled dst.now 0 k (λ p. get_or x.now (slice_index src.now p) d) (slice_index_or y.old k d) }
+    ensures { (k : ℕ) (d : S) → k < length y.old → slice_index_or y.new k d ≡ settled dst.now 0 k (λ p. slice_index_or x.now (slice_index src.now p) d) (slice_index_or y.old k d) }
 {
-    for i in 0..dst.len() {
-        y[dst[i]] = x[src[i]];
+    for (i, k) in dst.iter().enumerate() {
+        y[*k] = x[src[i]];
     }
 }
 
@@ -87,7 +79,7 @@ fn set_part<S: Copy>(
     requires rows { (p : ℕ) → p < length dst.now → slice_index src.now p < m }
     requires source { from + m ≤ length xs.now }
     requires target { to + n ≤ length ys.old }
-    ensures { RunChanged to n (λ k v. (d : S) → v ≡ settled dst.now 0 k (λ p. get_or xs.now (from + slice_index src.now p) d) (slice_index_or ys.old (to + k) d)) ys.old ys.new }
+    ensures { RunChanged to n (λ k v. (d : S) → v ≡ settled dst.now 0 k (λ p. slice_index_or xs.now (from + slice_index src.now p) d) (slice_index_or ys.old (to + k) d)) ys.old ys.new }
 {
     set_run(dst, src, &xs[from..from + m], &mut ys[to..to + n]);
 }
@@ -105,11 +97,7 @@ fn set_lanes<S: Copy>(
     ensures { SetByPairs dst.now src.now v vs.now t ts.old ts.new }
 {
     let places = with_partner(dst, src);
-    let target = Band {
-        of: t,
-        first: 0,
-        count: t.cols,
-    };
+    let target = t.band();
     for lane in 0..t.lanes {
         let from = v.start(lane_for(lane, v.of.lanes, t.lanes));
         set_part(
@@ -136,8 +124,8 @@ pub fn set_data_with_indices<S: Scalar>(
     ts: &mut [S],
 ) -> Result<(), Refusal>
     ensures verdict { answer result ≡ first_of (pairs_tests dst.now src.now v (length vs.now) t (length ts.old)) }
-    ensures accepted { answer result ≡ 0 → SetByPairs dst.now src.now v vs.now t ts.old ts.new }
-    ensures refused { (answer result ≢ 0) → ts.new ≡ ts.old }
+    ensures accepted { OnOk result (SetByPairs dst.now src.now v vs.now t ts.old ts.new) }
+    ensures refused { OnErr result (ts.new ≡ ts.old) }
 {
     check_pairs(dst, src, v, vs.len(), t, ts.len())?;
     set_lanes(dst, src, v, vs, t, ts);

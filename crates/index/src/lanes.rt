@@ -1,5 +1,5 @@
 //! One lane after the other, each by its runs.
-ghost use Rattle.std.specs.Prelude.{◌≡◌, ℕ, ◌+◌, ◌<◌, ◌≤◌, length, get_or, slice_index_or};
+ghost use Rattle.std.specs.Prelude.{◌≡◌, ◌+◌, ◌≤◌, length, slice_index_or};
 ghost use Rattle.shape.specs.Changes.{RunChanged};
 ghost use Rattle.index.specs.Indices.{Inside, settled};
 ghost use Rattle.index.specs.Routes.{became, Ready};
@@ -24,7 +24,7 @@ pub(crate) fn route_part<S: Copy>(
     requires ready { Ready route list.now m n }
     requires source { from + m ≤ length xs.now }
     requires target { to + n ≤ length ys.old }
-    ensures { RunChanged to n (λ k v. (d : S) → v ≡ became route list.now (λ i. get_or xs.now (from + i) d) (slice_index_or ys.old (to + k) d) k) ys.old ys.new }
+    ensures { RunChanged to n (λ k v. (d : S) → v ≡ became route list.now (λ i. slice_index_or xs.now (from + i) d) (slice_index_or ys.old (to + k) d) k) ys.old ys.new }
 {
     route_run(route, list, &xs[from..from + m], &mut ys[to..to + n]);
 }

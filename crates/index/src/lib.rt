@@ -11,5 +11,6 @@ pub mod rows;
 mod runs;
 pub mod transposes;
 
+pub use check::has_outside;
 pub use rows::{assign_at_indices, copy_from_indices, fill_index, gather, scatter};
 pub use transposes::{gather_transpose, scatter_transpose};

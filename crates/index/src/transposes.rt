@@ -1,6 +1,5 @@
 //! The transposes of gather and scatter, on weights.
-ghost use Rattle.std.specs.Prelude.{◌≡◌, ℕ, ◌+◌, ◌<◌, ◌≤◌, length, ◌≢◌, slice_index_or};
-ghost use Rattle.scalar.specs.Ops.{Ops};
+ghost use Rattle.std.specs.Prelude.{◌≡◌, ℕ, ◌+◌, ◌<◌, ◌≤◌, length, slice_index_or, OnOk, OnErr};
 ghost use Rattle.shape.specs.Refusals.{answer, first_of};
 ghost use Rattle.shape.specs.Changes.{RunChanged};
 ghost use Rattle.index.specs.Indices.{Inside};
@@ -10,14 +9,16 @@ use crate::check::has_outside;
 use scalar::Scalar;
 use shape::{Column, Refusal, refuse_columns};
 
-fn test_back(
+/// The tests, and what acceptance tells.
+fn check_back(
     p: Column,
     p_len: usize,
     list: &[usize],
     q: Column,
     q_len: usize,
 ) -> Result<(), Refusal>
-    ensures { answer result ≡ first_of (back_tests p p_len list.now q q_len) }
+    ensures verdict { answer result ≡ first_of (back_tests p p_len list.now q q_len) }
+    ensures lawful { OnOk result (BackLawful p p_len list.now q q_len) }
 {
     refuse_columns!(p, p_len; q, q_len);
     if p.of.lanes != q.of.lanes {
@@ -32,29 +33,14 @@ fn test_back(
     Ok(())
 }
 
-/// The tests, and what acceptance tells.
-fn check_back(
-    p: Column,
-    p_len: usize,
-    list: &[usize],
-    q: Column,
-    q_len: usize,
-) -> Result<(), Refusal>
-    ensures verdict { answer result ≡ first_of (back_tests p p_len list.now q q_len) }
-    ensures lawful { answer result ≡ 0 → BackLawful p p_len list.now q q_len }
-{
-    test_back(p, p_len, list, q, q_len)
-}
-
 /// Row list(i) of q gains row i of p.
 fn gather_back_run<S: Scalar>(list: &[usize], p: &[S], q: &mut [S])
     requires long { length list.now ≡ length p.now }
     requires inside { Inside (length q.old) list.now }
     ensures { (k : ℕ) (d : S) → k < length q.old → S.means (slice_index_or q.new k d) ≡ gathered_back S.ops list.now 0 (λ i. S.means (slice_index_or p.now i d)) (λ l. S.means (slice_index_or q.old l d)) k }
 {
-    for i in 0..list.len() {
-        let k = list[i];
-        q[k] = q[k].add(p[i]);
+    for (i, k) in list.iter().enumerate() {
+        q[*k] = q[*k].add(p[i]);
     }
 }
 
@@ -65,10 +51,9 @@ fn scatter_back_run<S: Scalar>(list: &[usize], p: &mut [S], q: &mut [S])
     ensures first { (k : ℕ) (d : S) → k < length p.old → S.means (slice_index_or p.new k d) ≡ (scattered_back S.ops list.now 0 (λ i. S.means (slice_index_or p.old i d)) (λ l. S.means (slice_index_or q.old l d))).0 k }
     ensures second { (k : ℕ) (d : S) → k < length q.old → S.means (slice_index_or q.new k d) ≡ (scattered_back S.ops list.now 0 (λ i. S.means (slice_index_or p.old i d)) (λ l. S.means (slice_index_or q.old l d))).1 k }
 {
-    for i in (0..list.len()).rev() {
-        let k = list[i];
-        p[i] = p[i].add(q[k]);
-        q[k] = S::zero();
+    for (i, k) in list.iter().enumerate().rev() {
+        p[i] = p[i].add(q[*k]);
+        q[*k] = S::zero();
     }
 }
 
@@ -117,8 +102,8 @@ pub fn gather_transpose<S: Scalar>(
     qs: &mut [S],
 ) -> Result<(), Refusal>
     ensures verdict { answer result ≡ first_of (back_tests p (length ps.now) list.now q (length qs.old)) }
-    ensures accepted { answer result ≡ 0 → GatheredBack S.means S.ops list.now p ps.now q qs.old qs.new }
-    ensures refused { (answer result ≢ 0) → qs.new ≡ qs.old }
+    ensures accepted { OnOk result (GatheredBack S.means S.ops list.now p ps.now q qs.old qs.new) }
+    ensures refused { OnErr result (qs.new ≡ qs.old) }
 {
     check_back(p, ps.len(), list, q, qs.len())?;
     gather_back_lanes(list, p, ps, q, qs);
@@ -171,8 +156,8 @@ pub fn scatter_transpose<S: Scalar>(
     qs: &mut [S],
 ) -> Result<(), Refusal>
     ensures verdict { answer result ≡ first_of (back_tests p (length ps.old) list.now q (length qs.old)) }
-    ensures accepted { answer result ≡ 0 → ScatteredBack S.means S.ops list.now p ps.old ps.new q qs.old qs.new }
-    ensures refused { (answer result ≢ 0) → (ps.new ≡ ps.old) × (qs.new ≡ qs.old) }
+    ensures accepted { OnOk result (ScatteredBack S.means S.ops list.now p ps.old ps.new q qs.old qs.new) }
+    ensures refused { OnErr result ((ps.new ≡ ps.old) × (qs.new ≡ qs.old)) }
 {
     check_back(p, ps.len(), list, q, qs.len())?;
     scatter_back_lanes(list, p, ps, q, qs);

@@ -1,17 +1,27 @@
 -- A lane's norm from the runs that were lent. Assumes nothing.
-use Rattle.std.proofs.Common.{◌≡◌, ℕ, ◌+◌, ◌-◌, ◌<◌, ◌≤◌, cond, List, length, take, drop, sym, ap, ◌∙◌, add-one, arith, eq-eqb, ne_eqb}
+use Rattle.std.proofs.Common.{◌≡◌, ℕ, ◌+◌, ◌-◌, ◌<◌, ◌≤◌, List, ◌∷◌, length, get_or, take, drop, sym, ap, ◌∙◌, arith}
+use Rattle.std.proofs.lemmas.List.{length-drop, drop_more}
 use Rattle.scalar.specs.Ops.{Ops}
 use Rattle.scalar.specs.Orders.{Order}
 use Rattle.scalar.specs.Sums.{at}
-use Rattle.scalar.proofs.Stored.{at_same}
+use Rattle.scalar.proofs.Stored.{at_same, at_read}
 use Rattle.scalar.proofs.SumLaws.{sum_same}
 use Rattle.shape.proofs.Parts.{part_get, length_part}
-use Rattle.norm.specs.Norms.{weighted, mean, greatest, reduced}
+use Rattle.norm.specs.Norms.{weighted, mean}
 
 pub at_part : {S M : Type 0} (means : S → M) (o : Ops M) (xs : List S) (a k i : ℕ) → a + k ≤ length xs → i < k → at means o (take ((a + k) - a) (drop a xs)) i ≡ at means o xs (a + i)
 at_part means o xs a k i h l =
     let long = length_part xs a k h in
     at_same means o (take ((a + k) - a) (drop a xs)) xs i (a + i) (omega arith) (omega arith) (λ d. part_get a k i xs d h l)
+
+-- the next entry of a slice that is read in order, and what is left then
+pub next_is : {S M : Type 0} (means : S → M) (o : Ops M) (xs left rest : List S) (i : ℕ) (v : S) → left ≡ drop i xs → left ≡ v ∷ rest → (rest ≡ drop (i + 1) xs) × (at means o xs i ≡ means v) × (i < length xs)
+next_is means o xs left rest i v p q =
+    let e : drop i xs ≡ v ∷ rest = sym p ∙ q in
+    let h : i < length xs = omega (arith, ap length e, length-drop i xs) in
+    let f = drop_more xs i v h in
+    let here : v ≡ get_or xs i v = cc in
+    (cc, at_read means o xs i v h here, h)
 
 -- only the first rows count
 pub mean_same : {M : Type 0} (o : Ops M) (order : Order M) (n : ℕ) (x x' y y' : ℕ → M) (rtol : M) (a a' : ℕ → M)
@@ -24,14 +34,3 @@ mean_same o order n x x' y y' rtol a a' p q r =
 pub mean_of : {M : Type 0} (o : Ops M) (order : Order M) (m n : ℕ) (x x' y y' : ℕ → M) (rtol : M) (a a' : ℕ → M) → m ≡ n
     → ((i : ℕ) → i < n → x i ≡ x' i) → ((i : ℕ) → i < n → y i ≡ y' i) → ((i : ℕ) → i < n → a i ≡ a' i) → mean o order m x y rtol a ≡ mean o order n x' y' rtol a'
 mean_of o order m n x x' y y' rtol a a' e p q r = ap (λ k. mean o order k x y rtol a) e ∙ mean_same o order n x x' y y' rtol a a' p q r
-
--- one lane, and several
-module _ {M : Type 0} (o : Ops M) (order : Order M) (f : ℕ → M) where
-  pub greatest_next : (n : ℕ) → greatest o order f (n + 1) ≡ order.greater (greatest o order f n) (f n)
-  greatest_next n = ap (greatest o order f) (add-one n)
-
-  pub reduced_one : (n : ℕ) → n ≡ 1 → reduced o order f n ≡ f 0
-  reduced_one n e = ap (λ z. cond z (f 0) (greatest o order f n)) (eq-eqb n 1 e)
-
-  pub reduced_many : (n m : ℕ) → (n ≡ 1 → ⊥) → m ≡ n → reduced o order f n ≡ greatest o order f m
-  reduced_many n m several e = ap (λ z. cond z (f 0) (greatest o order f n)) (ne_eqb n 1 several) ∙ ap (greatest o order f) (sym e)

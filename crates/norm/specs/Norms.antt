@@ -1,5 +1,5 @@
 -- The weighted squared norm of a lane, and of all lanes. Assumes nothing.
-use Rattle.std.specs.Prelude.{◌≡◌, ℕ, zero, suc, Bool, cond, not, ◌||◌, List, [], ◌∷◌, ◌==◌}
+use Rattle.std.specs.Prelude.{◌≡◌, ℕ, zero, suc, Bool, not, ◌||◌, List, [], ◌∷◌, ◌==◌, if◌then◌else◌}
 use Rattle.scalar.specs.Ops.{Ops}
 use Rattle.scalar.specs.Orders.{Order}
 use Rattle.scalar.specs.Sums.{at, sum}
@@ -23,7 +23,7 @@ module _ {M : Type 0} (o : Ops M) (order : Order M) where
 
   -- one lane is the answer itself, several give the greatest
   abbrev pub reduced : (ℕ → M) → ℕ → M
-  reduced f n = cond (n == 1) (f 0) (greatest f n)
+  reduced f n = if n == 1 then f 0 else greatest f n
 
 -- row i of column v in lane b
 abbrev pub row_at : {S M : Type 0} → (S → M) → Ops M → Column → List S → ℕ → ℕ → M

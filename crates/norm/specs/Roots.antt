@@ -1,5 +1,5 @@
 -- Where a lane's functions change sign between g0 and g1. Assumes nothing.
-use Rattle.std.specs.Prelude.{◌≡◌, ℕ, zero, suc, ◌<◌, Bool, false, cond, ◌&&◌, ◌||◌, List, ℤ, pos, negsuc}
+use Rattle.std.specs.Prelude.{◌≡◌, ℕ, zero, suc, ◌<◌, Bool, false, ◌&&◌, ◌||◌, List, ℤ, pos, negsuc, if◌then◌else◌}
 use Rattle.scalar.specs.Ops.{Ops}
 use Rattle.scalar.specs.Orders.{Order}
 use Rattle.scalar.specs.Sums.{at}
@@ -23,11 +23,11 @@ module _ {M : Type 0} (o : Ops M) (order : Order M) where
 
   abbrev pub best : (ℕ → M) → (ℕ → M) → ℕ → M
   best g0 g1 zero = o.zero
-  best g0 g1 (suc n) = cond (replaces (best g0 g1 n) (g0 n) (g1 n)) (fraction (g0 n) (g1 n)) (best g0 g1 n)
+  best g0 g1 (suc n) = if replaces (best g0 g1 n) (g0 n) (g1 n) then fraction (g0 n) (g1 n) else best g0 g1 n
 
   abbrev pub row : (ℕ → M) → (ℕ → M) → ℕ → ℤ
   row g0 g1 zero = negsuc 0
-  row g0 g1 (suc n) = cond (replaces (best g0 g1 n) (g0 n) (g1 n)) (pos n) (row g0 g1 n)
+  row g0 g1 (suc n) = if replaces (best g0 g1 n) (g0 n) (g1 n) then pos n else row g0 g1 n
 
 -- an answer of a lane's rows
 pub record Says {S M : Type 0} (means : S → M) (o : Ops M) (order : Order M) (g0 g1 : ℕ → M) (rows : ℕ) (zeros : Bool) (part : S) (place : ℤ) : Type 0 where

@@ -1,34 +1,12 @@
 //! squared_norm: the weighted squared error norm, the greatest over the lanes.
-ghost use Rattle.std.specs.Prelude.{◌≡◌, ℕ, ◌+◌, ◌<◌, ◌≤◌, true, length, IfOk};
-ghost use Rattle.scalar.specs.Ops.{Ops};
-ghost use Rattle.scalar.specs.Orders.{Order};
+ghost use Rattle.std.specs.Prelude.{◌≡◌, ◌+◌, ◌<◌, ◌≤◌, length, IfOk, OnOk};
 ghost use Rattle.scalar.specs.Sums.{at};
 ghost use Rattle.shape.specs.Refusals.{answer, first_of};
-ghost use Rattle.norm.specs.Norms.{weighted, mean, greatest, reduced, lane_norm, norm_tests, NormLawful};
+ghost use Rattle.norm.specs.Norms.{weighted, mean, reduced, lane_norm, norm_tests, NormLawful};
 
 use scalar::{Ordered, Scale};
 use shape::lanes::{lane_for, no_broadcast};
 use shape::{Column, Refusal, refuse_columns};
-
-fn test_norm(
-    x: Column,
-    x_len: usize,
-    y: Column,
-    y_len: usize,
-    atol: Column,
-    atol_len: usize,
-) -> Result<(), Refusal>
-    ensures { answer result ≡ first_of (norm_tests x x_len y y_len atol atol_len) }
-{
-    refuse_columns!(x, x_len; y, y_len; atol, atol_len);
-    if (y.of.rows != x.of.rows) | (atol.of.rows != x.of.rows) {
-        return Err(Refusal::Counts);
-    }
-    if no_broadcast(y.of.lanes, x.of.lanes) | no_broadcast(atol.of.lanes, x.of.lanes) {
-        return Err(Refusal::Lanes);
-    }
-    Ok(())
-}
 
 /// The tests, and what acceptance tells.
 fn check_norm(
@@ -40,9 +18,16 @@ fn check_norm(
     atol_len: usize,
 ) -> Result<(), Refusal>
     ensures verdict { answer result ≡ first_of (norm_tests x x_len y y_len atol atol_len) }
-    ensures lawful { answer result ≡ 0 → NormLawful x x_len y y_len atol atol_len }
+    ensures lawful { OnOk result (NormLawful x x_len y y_len atol atol_len) }
 {
-    test_norm(x, x_len, y, y_len, atol, atol_len)
+    refuse_columns!(x, x_len; y, y_len; atol, atol_len);
+    if y.of.rows != x.of.rows || atol.of.rows != x.of.rows {
+        return Err(Refusal::Counts);
+    }
+    if no_broadcast(y.of.lanes, x.of.lanes) || no_broadcast(atol.of.lanes, x.of.lanes) {
+        return Err(Refusal::Lanes);
+    }
+    Ok(())
 }
 
 /// The square of x / (|y|·rtol + atol).
@@ -60,8 +45,8 @@ fn norm_run<S: Ordered>(x: &[S], y: &[S], rtol: S, atol: &[S]) -> S
     ensures { S.means result ≡ mean S.ops S.order (length x.now) (at S.means S.ops x.now) (at S.means S.ops y.now) (S.means rtol) (at S.means S.ops atol.now) }
 {
     let mut sum = S::zero();
-    for i in 0..x.len() {
-        sum = sum.add(square(x[i], y[i], rtol, atol[i]));
+    for ((x, y), atol) in x.iter().zip(y).zip(atol) {
+        sum = sum.add(square(*x, *y, rtol, *atol));
     }
     sum.div(S::of_count(x.len()))
 }

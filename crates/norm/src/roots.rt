@@ -1,7 +1,5 @@
 //! root_finding: which function changed sign between two points, and how far along.
-ghost use Rattle.std.specs.Prelude.{◌≡◌, ℕ, ◌+◌, ◌<◌, ◌≤◌, Bool, true, false, cond, ◌||◌, length, ℤ, pos, negsuc, IfOk, Decides, ◌≢◌};
-ghost use Rattle.scalar.specs.Ops.{Ops};
-ghost use Rattle.scalar.specs.Orders.{Order};
+ghost use Rattle.std.specs.Prelude.{◌≡◌, ◌+◌, ◌<◌, ◌≤◌, length, IfOk, ◌≢◌, ◌↔◌, IsTrue};
 ghost use Rattle.scalar.specs.Sums.{at};
 ghost use Rattle.shape.specs.Refusals.{answer, first_of};
 ghost use Rattle.shape.specs.Operands.{pair_tests, PairLawful};
@@ -35,10 +33,10 @@ fn root_run<S: Ordered>(g0: &[S], g1: &[S]) -> (bool, S, i32)
     let mut found = false;
     let mut part = S::zero();
     let mut row = -1;
-    for i in 0..g0.len() {
-        found = found | g1[i].is_zero();
-        if is_better(part, g0[i], g1[i]) {
-            part = fraction_of(g0[i], g1[i]);
+    for (i, (a, b)) in g0.iter().zip(g1).enumerate() {
+        found |= b.is_zero();
+        if is_better(part, *a, *b) {
+            part = fraction_of(*a, *b);
             row = i as i32;
         }
     }
@@ -79,7 +77,7 @@ fn root_lane<S: Ordered>(
 
 /// Both say the same.
 fn alike<S: Ordered>(a: (bool, S, i32), b: (bool, S, i32)) -> bool
-    ensures { Decides result ((a.0 ≡ b.0) × (S.means a.1 ≡ S.means b.1) × (a.2 ≡ b.2)) }
+    ensures { IsTrue result ↔ ((a.0 ≡ b.0) × (S.means a.1 ≡ S.means b.1) × (a.2 ≡ b.2)) }
 {
     let (found, part, row) = a;
     let (other_found, other_part, other_row) = b;

@@ -1,6 +1,6 @@
-use Rattle.std.proofs.Common.{sym, ◌∙◌}
+use Rattle.std.proofs.Common.{rules}
 use Rattle.index.proofs.CellsTested.{pairs_passed}
 use Rattle.index.proofs.cell_check.check_pairs.Goals as goal
 
-pub returns : goal.returns
-returns c = record { verdict = c.test_pairs.ensures; lawful = λ e. pairs_passed _ _ _ _ _ _ (sym c.test_pairs.ensures ∙ e) }
+pub returns-4-clause-lawful : goal.returns-4-clause-lawful
+returns-4-clause-lawful c = pairs_passed c.args.dst.now c.args.src.now c.args.v c.args.v_len c.args.t c.args.t_len (search rules)

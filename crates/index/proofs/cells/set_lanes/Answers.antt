@@ -20,9 +20,10 @@ set_part-requires g c =
     let tl = length c.args.ts.now in
     let lane = c.loop-lane.lane in
     let l = c.loop-lane-test.true in
+    let writes = rw c.band-target.ensures at c.start.ensures in
     let cut = c.with_partner-places.ensures in
     let many : c.lane_cells.result ≡ lane_cells t = c.lane_cells.ensures (not_large t tl c.requires.target) in
-    let to = c.start.ensures tl c.requires.target (omega arith) l in
+    let to = writes tl c.requires.target (omega arith) l in
     let fit = lane_fits t tl lane c.requires.target l in
     record {
       pairs = rw cut (pairs_long dst src);
@@ -43,11 +44,12 @@ loop-lane-preserved g c =
     let cur = c.loop-lane.ts in
     let lane = c.loop-lane.lane in
     let l = c.loop-lane-test.true in
+    let writes = rw c.band-target.ensures at c.start.ensures in
     let places = c.with_partner-places.result.now in
     let a = c.start.result in
     let many : c.lane_cells.result ≡ t.cols * t.rows = c.lane_cells.ensures (not_large t (length old) c.requires.target) ∙ mul_comm t.rows t.cols in
     let from = reads_from v (length vs) t.lanes lane c.lane_for.result c.start-from.result c.requires.source l c.requires.target.few_lanes c.lane_for.ensures c.start-from.ensures in
-    let to : a ≡ start t lane 0 = c.start.ensures (length old) c.requires.target (omega arith) l in
+    let to : a ≡ start t lane 0 = writes (length old) c.requires.target (omega arith) l in
     lanes_more t lane 0 t.cols a _
     (λ k w. (d : g.row.S.Denot) → w ≡ settled places 0 k (λ p. get_or vs (c.start-from.result + get_or src p 0) d) (get_or cur (a + k) d)) old cur c.set_part.new.ys to (omega arith)
     (λ j i w inside h below q d.

@@ -5,12 +5,6 @@ use Rattle.index.specs.Indices.{settled}
 use Rattle.index.proofs.Settles.{settled_same}
 use Rattle.index.proofs.cells.set_part.Goals as goal
 
-pub set_run-requires : goal.set_run-requires
-set_run-requires g c =
-    let x = length_part c.args.xs.now c.args.from c.args.m c.requires.source in
-    let y = length_part c.args.ys.now c.args.to c.args.n c.requires.target in
-    record { pairs = c.requires.pairs; inside = rw y c.requires.inside; rows = rw x c.requires.rows }
-
 pub returns : goal.returns
 returns g c =
     let dst = c.args.dst.now in

@@ -2,7 +2,7 @@ use Rattle.std.proofs.Common.{◌≡◌, ◌+◌, ◌<◌, length, get_or, ap, �
 use Rattle.shape.specs.Shapes.{start}
 use Rattle.shape.specs.Lanes.{lane_for}
 use Rattle.shape.proofs.Blocks.{band_fits, lane_below}
-use Rattle.shape.proofs.Cells.{column_more, column_all}
+use Rattle.shape.proofs.Cells.{column_more}
 use Rattle.index.specs.Routes.{became}
 use Rattle.index.specs.Calls.{read}
 use Rattle.index.proofs.lanes.route_lanes.Goals as goal
@@ -46,6 +46,3 @@ loop-lane-preserved g c =
     q d ∙ as_read ∙ ap (λ z. became route list (read x xs y lane d) z k) as-held)
     c.loop-lane.invariant
     c.route_part.ensures
-
-pub returns : goal.returns
-returns g c = column_all _ _ _ _ _ _ c.loop-lane-test.false c.loop-lane.invariant

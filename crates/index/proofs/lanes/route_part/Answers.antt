@@ -5,12 +5,6 @@ use Rattle.index.specs.Routes.{became}
 use Rattle.index.proofs.Settles.{became_same}
 use Rattle.index.proofs.lanes.route_part.Goals as goal
 
-pub route_run-requires : goal.route_run-requires
-route_run-requires g c =
-    let x = length_part c.args.xs.now c.args.from c.args.m c.requires.source in
-    let y = length_part c.args.ys.now c.args.to c.args.n c.requires.target in
-    rw (x, y) c.requires.ready
-
 pub returns : goal.returns
 returns g c =
     let route = c.args.route in

@@ -1,13 +1,10 @@
 use Rattle.std.proofs.Common.{◌<◌, length, get_or, refl, arith}
-use Rattle.index.proofs.Settles.{settling_more, settling_all}
+use Rattle.index.proofs.Settles.{settling_more}
 use Rattle.index.proofs.runs.assign_run.Goals as goal
 
-pub loop-i-preserved : goal.loop-i-preserved
-loop-i-preserved g c =
+pub loop-k-preserved : goal.loop-k-preserved
+loop-k-preserved g c =
     let list = c.args.list.now in
-    let i = c.loop-i.i in
-    let within : get_or list i 0 < length c.args.y.now = c.requires i c.loop-i-test.true in
-    settling_more (λ d p. c.args.value) list c.args.y.now c.loop-i.y i _ c.loop-i-test.true c.loop-i.auto.y (omega arith) (λ d. refl) c.loop-i.invariant
-
-pub returns : goal.returns
-returns g c = settling_all _ _ _ _ _ c.loop-i-test.false c.loop-i.invariant
+    let i = c.loop-k.k-index in
+    let within : get_or list i 0 < length c.args.y.now = c.requires i c.loop-k-test.true in
+    settling_more (λ d p. c.args.value) list c.args.y.now c.loop-k.y i _ c.loop-k-test.true c.loop-k.auto.y (omega arith) (λ d. refl) c.loop-k.invariant

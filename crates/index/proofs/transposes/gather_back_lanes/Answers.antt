@@ -1,6 +1,6 @@
 use Rattle.std.proofs.Common.{◌+◌, ◌<◌, length, get_or, ap, ◌∙◌, arith}
 use Rattle.shape.proofs.Blocks.{band_fits}
-use Rattle.shape.proofs.Cells.{column_more, column_all}
+use Rattle.shape.proofs.Cells.{column_more}
 use Rattle.index.specs.Transposes.{lane}
 use Rattle.index.proofs.Backs.{gathered_like}
 use Rattle.index.proofs.transposes.gather_back_lanes.Goals as goal
@@ -42,6 +42,3 @@ loop-lane-preserved g c =
     i w.row)
     c.loop-lane.invariant
     c.gather_back_part.ensures
-
-pub returns : goal.returns
-returns g c = column_all _ _ _ _ _ _ c.loop-lane-test.false c.loop-lane.invariant

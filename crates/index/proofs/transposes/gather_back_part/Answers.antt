@@ -4,12 +4,6 @@ use Rattle.shape.proofs.Parts.{part_get, length_part, part_changed}
 use Rattle.index.proofs.Backs.{gathered_like}
 use Rattle.index.proofs.transposes.gather_back_part.Goals as goal
 
-pub gather_back_run-requires : goal.gather_back_run-requires
-gather_back_run-requires g c =
-    let p = length_part c.args.ps.now c.args.from c.args.m c.requires.first in
-    let q = length_part c.args.qs.now c.args.to c.args.n c.requires.second in
-    record { long = omega (arith, c.requires.long); inside = rw q c.requires.inside }
-
 pub returns : goal.returns
 returns g c =
     let s = g.S.Scalar in

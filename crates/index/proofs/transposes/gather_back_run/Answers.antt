@@ -1,10 +1,7 @@
 use Rattle.std.proofs.Common.{◌<◌, length, get_or, ap, ◌∙◌, ap₂, arith}
 use Rattle.std.proofs.lemmas.List.{get_or_read}
-use Rattle.index.proofs.Backs.{gathering_none, gathering_more, gathering_all}
+use Rattle.index.proofs.Backs.{gathering_more, gathering_all}
 use Rattle.index.proofs.transposes.gather_back_run.Goals as goal
-
-pub loop-i-init : goal.loop-i-init
-loop-i-init g c = gathering_none _ _ _ _ _
 
 pub loop-i-preserved : goal.loop-i-preserved
 loop-i-preserved g c =

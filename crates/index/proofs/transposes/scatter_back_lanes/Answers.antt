@@ -1,6 +1,6 @@
-use Rattle.std.proofs.Common.{◌+◌, ◌<◌, ◌≤◌, length, get_or, ap, ◌∙◌, arith}
+use Rattle.std.proofs.Common.{◌+◌, ◌<◌, length, get_or, ap, ◌∙◌, arith}
 use Rattle.shape.proofs.Blocks.{band_fits}
-use Rattle.shape.proofs.Cells.{lanes_none, column_more, column_all}
+use Rattle.shape.proofs.Cells.{column_more}
 use Rattle.index.specs.Transposes.{lane}
 use Rattle.index.proofs.Backs.{scattered_like}
 use Rattle.index.proofs.transposes.scatter_back_lanes.Goals as goal
@@ -19,9 +19,6 @@ scatter_back_part-requires g c =
     let s = band_fits p.of pl b p.col 1 c.requires.first.fits k (omega (arith, c.requires.first.within)) in
     let t = band_fits q.of ql b q.col 1 c.requires.second.fits l (omega (arith, c.requires.second.within)) in
     record { long = c.requires.long; inside = c.requires.inside; first = omega arith; second = omega arith }
-
-pub loop-lane-init : goal.loop-lane-init
-loop-lane-init g c = (lanes_none _ _ _ _ _, lanes_none _ _ _ _ _)
 
 pub loop-lane-preserved : goal.loop-lane-preserved
 loop-lane-preserved g c =
@@ -46,8 +43,3 @@ loop-lane-preserved g c =
       column_more q.of b q.col c.start-in-loop-lane.result _ _ qs qs' c.scatter_back_part.new.qs to c.requires.second.within
           (λ i v w m d. m d ∙ (like d).second i w.row) c.loop-lane.invariant.1 c.scatter_back_part.ensures.second,
     )
-
-pub returns : goal.returns
-returns g c =
-    let end : c.args.p.of.lanes ≤ c.loop-lane.lane = omega (arith, c.requires.lanes) in
-    (column_all _ _ _ _ _ _ end c.loop-lane.invariant.0, column_all _ _ _ _ _ _ c.loop-lane-test.false c.loop-lane.invariant.1)

@@ -1,6 +1,6 @@
-use Rattle.std.proofs.Common.{sym, ◌∙◌}
+use Rattle.std.proofs.Common.{rules}
 use Rattle.norm.proofs.Tested.{norm_passed}
 use Rattle.norm.proofs.norms.check_norm.Goals as goal
 
-pub returns : goal.returns
-returns c = record { verdict = c.test_norm.ensures; lawful = λ e. norm_passed _ _ _ _ _ _ (sym c.test_norm.ensures ∙ e) }
+pub returns-5-clause-lawful : goal.returns-5-clause-lawful
+returns-5-clause-lawful c = norm_passed c.args.x c.args.x_len c.args.y c.args.y_len c.args.atol c.args.atol_len (search rules)

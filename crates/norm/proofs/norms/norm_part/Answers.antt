@@ -1,14 +1,7 @@
-use Rattle.std.proofs.Common.{◌∙◌, arith}
+use Rattle.std.proofs.Common.{◌∙◌}
 use Rattle.shape.proofs.Parts.{length_part}
 use Rattle.norm.proofs.Lent.{at_part, mean_of}
 use Rattle.norm.proofs.norms.norm_part.Goals as goal
-
-pub norm_run-requires : goal.norm_run-requires
-norm_run-requires g c =
-    let x = length_part c.args.xs.now c.args.x_from c.args.rows c.requires.first in
-    let y = length_part c.args.ys.now c.args.y_from c.args.rows c.requires.second in
-    let a = length_part c.args.atols.now c.args.atol_from c.args.rows c.requires.third in
-    record { second = omega arith; third = omega arith }
 
 pub returns : goal.returns
 returns g c =

@@ -1,14 +1,8 @@
-use Rattle.std.proofs.Common.{refl, arith}
+use Rattle.std.proofs.Common.{refl}
 use Rattle.shape.proofs.Parts.{length_part}
 use Rattle.norm.proofs.Lent.{at_part}
 use Rattle.norm.proofs.Signs.{says_at}
 use Rattle.norm.proofs.roots.root_part.Goals as goal
-
-pub root_run-requires : goal.root_run-requires
-root_run-requires g c =
-    let a = length_part c.args.g0s.now c.args.from0 c.args.rows c.requires.first in
-    let b = length_part c.args.g1s.now c.args.from1 c.args.rows c.requires.second in
-    record { same = omega arith; few = omega (arith, c.requires.few) }
 
 pub returns : goal.returns
 returns g c =
