@@ -1,9 +1,7 @@
 -- A rule of a constant table of three indices, by one test that is computed over all of its entries. Assumes nothing.
 use Rattle.std.proofs.Common.{◌≡◌, ℕ, zero, suc, ◌+◌, ◌<◌, ◌≤◌, Bool, true, false, cond, ◌&&◌, eqb, leb, List, [], get_or, ℤ, pos, negsuc, refl, ap, ◌∙◌, ap₂, inl, inr, arith, w8, to_z, of_z}
 use Rattle.std.proofs.lemmas.Bool.{and_parts, cases_eq, eqb-true, false≢true}
-use Rattle.scalar.specs.Ops.{Ops}
-use Rattle.differences.specs.Rows.{transposed}
-use Rattle.differences.specs.Matrices.{sign, signed, each, same, ruled}
+use Rattle.differences.specs.Matrices.{sign, each, same, ruled}
 
 pub each_at : (n : ℕ) (f : ℕ → Bool) → each n f ≡ true → (k : ℕ) → k < n → f k ≡ true
 each_at zero f all k h = absurd (omega arith)
@@ -25,7 +23,7 @@ rule table all k j l hk hj hl =
     let row = each_at 8 (λ j. each 8 (λ l. at k j l)) order j hj in
     same_is _ _ (each_at 8 (λ l. at k j l) row l hl)
 
--- ---- from whole numbers to scalars
+-- ---- from whole numbers to the bytes of the table
 
 cond_ap : {A B : Type 0} (f : A → B) (t : Bool) (a b : A) → f (cond t a b) ≡ cond t (f a) (f b)
 cond_ap f true a b = refl
@@ -40,6 +38,3 @@ on_signs f k j l =
 -- a byte holds the numbers of the table
 pub sign_held : (k j l : ℕ) → to_z w8 (of_z w8 (sign k j l)) ≡ sign k j l
 sign_held k j l = on_signs (λ z. to_z w8 (of_z w8 z)) k j l
-
-pub sign_transposed : {M : Type 0} (o : Ops M) (k j l : ℕ) → signed o (sign k j l) ≡ transposed o k j l
-sign_transposed o k j l = on_signs (signed o) k j l

@@ -4,9 +4,10 @@ use Rattle.std.proofs.lemmas.Bool.{cases_lt, cases_eq}
 use Rattle.scalar.specs.Ops.{Ops}
 use Rattle.scalar.specs.Sums.{at}
 use Rattle.scalar.proofs.Stored.{at_same}
-use Rattle.shape.specs.Shapes.{start, cell, In, Fits}
+use Rattle.shape.specs.Shapes.{start, cell, column_of, In, Fits, Lawful}
 use Rattle.shape.specs.Changes.{Changed, RunChanged, LaneBand, LanesBand}
 use Rattle.shape.specs.declared.operand.TableShape.{TableShape}
+use Rattle.shape.specs.declared.operand.Column.{Column}
 use Rattle.shape.proofs.Blocks.{cell_fits, band_apart}
 use Rattle.shape.proofs.Cells.{changed_more}
 
@@ -15,6 +16,11 @@ pub start_small : (t : TableShape) (len b c : ℕ) → Fits t len → b < t.lane
 start_small t len b c fits lane col =
     let lanes : b * t.cols ≤ 4096 * 1024 = mul-le-mul {n₂ = 4096} {m₂ = 1024} (omega (arith, fits.few_lanes)) fits.few_cols in
     mul-le-mul {n₂ = 4096 * 1024 + 1024} {m₂ = 65536} (omega (arith, fits.few_cols)) fits.few_rows
+
+-- after the calls of `column` and `start`
+pub column_start : (t : TableShape) (len b j a : ℕ) (v : Column) → v ≡ column_of t j → ((n : ℕ) → Lawful v n → b < v.of.lanes → a ≡ start v.of b v.col)
+    → Fits t len → b < t.lanes → j < t.cols → a ≡ start t b j
+column_start t len b j a v is starts fits lane col = (rw is at starts) len (record { fits = fits; within = col }) lane
 
 pub start_next : (t : TableShape) (b j : ℕ) → start t b (j + 1) ≡ start t b j + t.rows
 start_next t b j =

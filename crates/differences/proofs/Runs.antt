@@ -1,16 +1,13 @@
 -- A run of memory written entry by entry, and reads of what is not written yet. Assumes nothing.
-use Rattle.std.proofs.Common.{◌≡◌, ℕ, ◌+◌, ◌<◌, ◌≤◌, ◌≢◌, ◌⊎◌, List, length, get_or, set, sym, refl, ap, ◌∙◌, inl, inr, arith}
-use Rattle.std.proofs.lemmas.List.{get_or-set_same, get_or-set_other}
-use Rattle.std.proofs.lemmas.Bool.{cases_eq}
+use Rattle.std.proofs.Common.{◌≡◌, ℕ, ◌+◌, ◌<◌, ◌≤◌, ◌≢◌, ◌⊎◌, List, ◌++◌, length, get_or, set, sym, ap, ◌∙◌, inl, inr, arith}
+use Rattle.std.proofs.lemmas.List.{places, get_or-set_same, get_or-set_other, get_or_append_left}
+use Rattle.std.proofs.lemmas.Bool.{cases_eq, cases_lt}
 use Rattle.scalar.specs.Ops.{Ops}
 use Rattle.scalar.specs.Sums.{at}
 use Rattle.scalar.proofs.Stored.{at_read, at_same}
 use Rattle.shape.specs.Changes.{RunChanged}
 
 module _ {S : Type 0} where
-  pub run_none : (a : ℕ) (P : ℕ → S → Type 0) (old : List S) → RunChanged a 0 P old old
-  run_none a P old = record { written = λ i d h. absurd (omega arith); kept = λ p d w. refl }
-
   pub run_more : (a n : ℕ) (P : ℕ → S → Type 0) (old cur : List S) (v : S) → RunChanged a n P old cur → a + n < length cur → P n v → RunChanged a (n + 1) P old (set cur (a + n) v)
   run_more a n P old cur v run h new = record {
     written = λ i d l. elim (cases_eq i n) [
@@ -19,6 +16,16 @@ module _ {S : Type 0} where
     ];
     kept = λ p d w. let ne : p ≢ a + n = omega arith in get_or-set_other cur (a + n) p v d ne ∙ run.kept p d (elim w [ inl low ↦ inl low | inr high ↦ inr (omega arith) ]);
   }
+
+  -- a run in the front part of a memory is one in the memory
+  pub run_front : (a n : ℕ) (P : ℕ → S → Type 0) (all xs ys zs : List S) → all ≡ xs ++ zs → a + n ≤ length xs → length ys ≡ length xs → RunChanged a n P xs ys → RunChanged a n P all (ys ++ zs)
+  run_front a n P all xs ys zs split h same run = rw split (record {
+    written = λ i d l. rw (get_or_append_left ys zs d (a + i) (omega arith)) (run.written i d l);
+    kept = λ p d w. elim (cases_lt p (length xs)) [
+      | inl inside ↦ get_or_append_left ys zs d p (omega arith) ∙ run.kept p d w ∙ sym (get_or_append_left xs zs d p inside)
+      | inr after ↦ grind (arith, places)
+    ];
+  })
 
 -- a read of a place outside the part that is written
 pub run_read : {S M : Type 0} (means : S → M) (o : Ops M) (a n : ℕ) (P : ℕ → S → Type 0) (old cur : List S) (p : ℕ) (x : S) → length cur ≡ length old → p < length old

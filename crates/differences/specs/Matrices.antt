@@ -39,11 +39,19 @@ entries o (OfTranspose order) k ms = transposed o order
 abbrev pub entry_of : {M : Type 0} → Ops M → Matrix → List M → ℕ → ℕ → M
 entry_of o m ms = entries o m.entries m.size ms
 
+-- k by k entries
+abbrev pub sized : ℕ → Entries → Matrix
+sized k entries = record { size = k; entries = entries }
+
 -- there are `count` numbers, as many as the matrix has, or the table has its order
 abbrev pub Enough : Entries → ℕ → ℕ → Type 0
 Enough ByRows k count = count ≡ k * k
 Enough ByColumns k count = count ≡ k * k
 Enough (OfTranspose order) k count = order ≤ 5
+
+-- the matrix reads its numbers, and needs nothing else
+abbrev pub Numbered : Matrix → Type 0
+Numbered m = (count : ℕ) → count ≡ m.size * m.size → Enough m.entries m.size count
 
 -- a matrix of at most 8 rows, with its entries
 pub record Small (m : Matrix) (count : ℕ) : Type 0 where

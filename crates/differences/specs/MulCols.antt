@@ -7,7 +7,6 @@ use Rattle.shape.specs.declared.operand.TableShape.{TableShape}
 use Rattle.product.specs.Results.{row_of}
 use Rattle.differences.specs.Rows.{multiplied}
 use Rattle.differences.specs.Matrices.{Small, entry_of}
-use Rattle.differences.specs.declared.matrix.Entries.TheVariants.{ByRows, ByColumns}
 use Rattle.differences.specs.declared.matrix.Matrix.{Matrix}
 
 -- k columns, `count` numbers, `work` scalars of work memory
@@ -19,13 +18,6 @@ mul_cols_tests t len k count work =
     ∷ (4, nat_lt t.cols k)
     ∷ (5, nat_lt 8 k)
     ∷ (6, not (count == k * k)) ∷ []
-
--- k by k numbers, read by rows or by columns
-abbrev pub by_rows : ℕ → Matrix
-by_rows k = record { size = k; entries = ByRows }
-
-abbrev pub by_columns : ℕ → Matrix
-by_columns k = record { size = k; entries = ByColumns }
 
 pub record MulColsLawful (t : TableShape) (len : ℕ) (m : Matrix) (count work : ℕ) : Type 0 where
   pub fits : Fits t len

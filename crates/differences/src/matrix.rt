@@ -1,7 +1,6 @@
 //! Small square matrices: numbers read by rows or by columns, or the constant matrix of the
 //! update's transpose.
 ghost use Rattle.std.specs.Prelude.{◌≡◌, ◌+◌, ◌*◌, ◌<◌, ◌≤◌, true, map, length};
-ghost use Rattle.scalar.specs.Ops.{Ops};
 ghost use Rattle.differences.specs.Rows.{transposed};
 ghost use Rattle.differences.specs.Matrices.{Small, entry_of, ruled, sign, signed};
 

@@ -1,7 +1,6 @@
 //! Some rows of one lane times a matrix: the old rows are staged in work memory, a column after
 //! the other, and the new columns are written from there.
 ghost use Rattle.std.specs.Prelude.{◌≡◌, ℕ, ◌+◌, ◌-◌, ◌*◌, ◌<◌, ◌≤◌, length, slice_index_or};
-ghost use Rattle.scalar.specs.Ops.{Ops};
 ghost use Rattle.shape.specs.Shapes.{cell, Fits};
 ghost use Rattle.shape.specs.Changes.{Changed, RunChanged, LaneBand, meant};
 ghost use Rattle.differences.specs.Matrices.{Small};
@@ -10,7 +9,7 @@ ghost use Rattle.differences.specs.Tiles.{Within, InTile, Staged, staged_product
 
 use crate::matrix::Matrix;
 use scalar::Scalar;
-use shape::{Column, TableShape};
+use shape::TableShape;
 
 /// Rows `row` to `row + height − 1` of one lane.
 #[derive(Clone, Copy)]
@@ -28,8 +27,7 @@ impl Tile {
         requires col { col < t.cols }
         ensures { result ≡ cell t self.lane col self.row }
     {
-        let column = Column { of: t, col };
-        column.start(self.lane) + self.row
+        t.column(col).start(self.lane) + self.row
     }
 }
 
@@ -76,8 +74,9 @@ fn write_run<S: Scalar>(staged: &[S], m: Matrix, numbers: &[S], j: usize, y: &mu
     requires room { m.size * length y.old ≤ length staged.now }
     ensures { (i : ℕ) (d : S) → i < length y.old → S.means (slice_index_or y.new i d) ≡ staged_product S.means S.ops staged.now (length y.old) m numbers.now j i }
 {
-    for i in 0..y.len() {
-        y[i] = dot(staged, y.len(), i, m, numbers, j);
+    let height = y.len();
+    for (i, v) in y.iter_mut().enumerate() {
+        *v = dot(staged, height, i, m, numbers, j);
     }
 }
 
@@ -164,11 +163,9 @@ pub(crate) fn multiply_lane<S: Scalar>(
     ensures { Changed t (LaneBand lane 0 m.size) (meant S.means (cell_multiplied S.means S.ops t m numbers.now ts.old)) ts.old ts.new }
 {
     let tall = tallest(work.len(), m.size);
-    let mut row = 0;
-    while row < t.rows {
+    for row in (0..t.rows).step_by(tall) {
         let height = tall.min(t.rows - row);
         let tile = Tile { lane, row, height };
         multiply_tile(t, ts, tile, m, numbers, work);
-        row += height;
     }
 }

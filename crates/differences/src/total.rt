@@ -1,6 +1,5 @@
 //! The sum of a table's first columns into a column d.
 ghost use Rattle.std.specs.Prelude.{◌≡◌, ℕ, ◌+◌, ◌<◌, length, slice_index_or};
-ghost use Rattle.scalar.specs.Ops.{Ops};
 ghost use Rattle.differences.specs.Transposes.{TransposeLawful, Totalled};
 
 use product::gemv_cols;
@@ -10,8 +9,8 @@ use shape::{Column, TableShape};
 fn fill_ones<S: Scalar>(work: &mut [S])
     ensures { (i : ℕ) (d : S) → i < length work.old → S.means (slice_index_or work.new i d) ≡ S.ops.one }
 {
-    for i in 0..work.len() {
-        work[i] = S::one();
+    for c in work.iter_mut() {
+        *c = S::one();
     }
 }
 

@@ -1,6 +1,5 @@
 //! The update of a table of backward differences by a new difference d.
-ghost use Rattle.std.specs.Prelude.{◌≡◌, ℕ, ◌+◌, ◌-◌, ◌<◌, ◌≤◌, List, length, ◌≢◌, nat_le};
-ghost use Rattle.scalar.specs.Ops.{Ops};
+ghost use Rattle.std.specs.Prelude.{◌≡◌, ℕ, ◌+◌, ◌-◌, ◌<◌, ◌≤◌, List, length, nat_le, OnOk, OnErr};
 ghost use Rattle.scalar.specs.Sums.{at};
 ghost use Rattle.shape.specs.Shapes.{Fits};
 ghost use Rattle.shape.specs.Refusals.{answer, first_of};
@@ -8,45 +7,15 @@ ghost use Rattle.shape.specs.Changes.{Changed, RunChanged, LaneBand, meant};
 ghost use Rattle.differences.specs.Updates.{update_tests, UpdateLawful, Updated, Accumulated, cell_updated_by};
 
 use scalar::Scalar;
-use shape::check::{misfits, no_column, no_lanes, too_large};
+use shape::check::no_column;
 use shape::lanes::{lane_for, no_broadcast};
-use shape::{Column, Refusal, TableShape};
+use shape::{Column, Refusal, TableShape, refuse_shapes};
 
 /// order + 2 is not below the columns; asked without the sum, which could wrap.
 pub(crate) fn no_order(t: TableShape, order: usize) -> bool
     ensures { result ≡ nat_le t.cols (order + 2) }
 {
     order >= t.cols || t.cols - order <= 2
-}
-
-fn test_update(
-    t: TableShape,
-    len: usize,
-    order: usize,
-    d: Column,
-    d_len: usize,
-) -> Result<(), Refusal>
-    ensures { answer result ≡ first_of (update_tests t len order d d_len) }
-{
-    if no_lanes(t) | no_lanes(d.of) {
-        return Err(Refusal::NoLanes);
-    }
-    if too_large(t) | too_large(d.of) {
-        return Err(Refusal::TooLarge);
-    }
-    if misfits(t, len) | misfits(d.of, d_len) {
-        return Err(Refusal::Memory);
-    }
-    if no_order(t, order) | no_column(d) {
-        return Err(Refusal::NoColumn);
-    }
-    if d.of.rows != t.rows {
-        return Err(Refusal::Counts);
-    }
-    if no_broadcast(d.of.lanes, t.lanes) {
-        return Err(Refusal::Lanes);
-    }
-    Ok(())
 }
 
 /// The tests of an update, and what acceptance tells.
@@ -58,9 +27,19 @@ fn check_update(
     d_len: usize,
 ) -> Result<(), Refusal>
     ensures verdict { answer result ≡ first_of (update_tests t len order d d_len) }
-    ensures lawful { answer result ≡ 0 → UpdateLawful t len order d d_len }
+    ensures lawful { OnOk result (UpdateLawful t len order d d_len) }
 {
-    test_update(t, len, order, d, d_len)
+    refuse_shapes!(t, len; d.of, d_len);
+    if no_order(t, order) || no_column(d) {
+        return Err(Refusal::NoColumn);
+    }
+    if d.of.rows != t.rows {
+        return Err(Refusal::Counts);
+    }
+    if no_broadcast(d.of.lanes, t.lanes) {
+        return Err(Refusal::Lanes);
+    }
+    Ok(())
 }
 
 /// d − x: the negation is added.
@@ -76,27 +55,20 @@ fn gain_run<S: Scalar>(ts: &mut [S], to: usize, from: usize, rows: usize)
     requires fits { from + rows ≤ length ts.old }
     ensures { RunChanged to rows (λ i v. S.means v ≡ S.ops.plus (at S.means S.ops ts.old (to + i)) (at S.means S.ops ts.old (from + i))) ts.old ts.new }
 {
-    for i in 0..rows {
-        ts[to + i] = ts[to + i].add(ts[from + i]);
+    let (left, right) = ts.split_at_mut(from);
+    for (i, v) in left[to..to + rows].iter_mut().enumerate() {
+        *v = v.add(right[i]);
     }
 }
 
 /// The run at `to` becomes d − the run at `before`, which lies before it.
-fn difference_run<S: Scalar>(
-    ts: &mut [S],
-    to: usize,
-    before: usize,
-    rows: usize,
-    d: &[S],
-    from: usize,
-)
-    requires apart { before + rows ≤ to }
-    requires fits { to + rows ≤ length ts.old }
-    requires source { from + rows ≤ length d.now }
-    ensures { RunChanged to rows (λ i v. S.means v ≡ S.ops.plus (at S.means S.ops d.now (from + i)) (S.ops.minus (at S.means S.ops ts.old (before + i)))) ts.old ts.new }
+fn difference_run<S: Scalar>(ts: &mut [S], to: usize, before: usize, d: &[S])
+    requires apart { before + length d.now ≤ to }
+    requires fits { to + length d.now ≤ length ts.old }
+    ensures { RunChanged to (length d.now) (λ i v. S.means v ≡ S.ops.plus (at S.means S.ops d.now i) (S.ops.minus (at S.means S.ops ts.old (before + i)))) ts.old ts.new }
 {
-    for i in 0..rows {
-        ts[to + i] = less(d[from + i], ts[before + i]);
+    for (i, v) in d.iter().enumerate() {
+        ts[to + i] = less(*v, ts[before + i]);
     }
 }
 
@@ -108,9 +80,9 @@ fn gain_column<S: Scalar>(t: TableShape, ts: &mut [S], lane: usize, j: usize)
     requires within { j + 1 < t.cols }
     ensures { (n m : ℕ) (old : List S) → Accumulated S.means S.ops t lane n m old ts.old → m ≡ j + 1 → j < n → length ts.old ≡ length old → Accumulated S.means S.ops t lane n j old ts.new }
 {
-    let left = Column { of: t, col: j };
-    let right = Column { of: t, col: j + 1 };
-    gain_run(ts, left.start(lane), right.start(lane), t.rows);
+    let to = t.column(j).start(lane);
+    let from = t.column(j + 1).start(lane);
+    gain_run(ts, to, from, t.rows);
 }
 
 /// In one lane the columns left of column n gain their right neighbour, from the last down to 0.
@@ -140,15 +112,9 @@ fn update_lane<S: Scalar>(
     requires source { from + t.rows ≤ length ds.now }
     ensures { Changed t (LaneBand lane 0 (order + 3)) (meant S.means (cell_updated_by S.means S.ops t order ds.now from ts.old)) ts.old ts.new }
 {
-    let last = Column {
-        of: t,
-        col: order + 2,
-    };
-    let before = Column {
-        of: t,
-        col: order + 1,
-    };
-    difference_run(ts, last.start(lane), before.start(lane), t.rows, ds, from);
+    let to = t.column(order + 2).start(lane);
+    let before = t.column(order + 1).start(lane);
+    difference_run(ts, to, before, &ds[from..from + t.rows]);
     accumulate_lane(t, ts, lane, order + 2);
 }
 
@@ -172,8 +138,8 @@ pub fn update_backward_diff<S: Scalar>(
     ds: &[S],
 ) -> Result<(), Refusal>
     ensures verdict { answer result ≡ first_of (update_tests t (length ts.old) order d (length ds.now)) }
-    ensures accepted { answer result ≡ 0 → Updated S.means S.ops t order d ds.now ts.old ts.new }
-    ensures refused { (answer result ≢ 0) → ts.new ≡ ts.old }
+    ensures accepted { OnOk result (Updated S.means S.ops t order d ds.now ts.old ts.new) }
+    ensures refused { OnErr result (ts.new ≡ ts.old) }
 {
     check_update(t, ts.len(), order, d, ds.len())?;
     update_lanes(t, ts, order, d, ds);

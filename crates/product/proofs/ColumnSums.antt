@@ -1,58 +1,57 @@
 -- Sums over the columns of a run: the later ones after one another, after the first, and in parts of memories. Assumes nothing.
-use Rattle.std.proofs.Common.{◌≡◌, ℕ, suc, ◌+◌, ◌-◌, ◌*◌, ◌<◌, ◌≤◌, List, length, get_or, take, sym, ap, ◌∙◌, ap₂, arith}
+use Rattle.std.proofs.Common.{◌≡◌, ℕ, suc, ◌+◌, ◌-◌, ◌*◌, ◌<◌, ◌≤◌, List, ◌∷◌, length, get_or, take, drop, sym, ap, ◌∙◌, ap₂, arith}
 use lib.Arith.{digits_lt}
 use borrow.Rule.Slice.PartMut.{put_mid}
 use Rattle.scalar.specs.Ops.{Ops}
 use Rattle.scalar.specs.Sums.{at, sum_from}
 use Rattle.scalar.proofs.Stored.{at_read, at_is}
+use Rattle.scalar.proofs.SumLaws.{sum_same}
 use Rattle.shape.specs.Changes.{RunChanged}
 use Rattle.shape.proofs.Parts.{length_part, part_changed}
 use Rattle.shape.proofs.Blocks.{block_fits}
 use Rattle.vector.specs.Rows.{blend}
 use Rattle.product.specs.Rows.{summed}
 use Rattle.product.specs.Results.{Run, run_row}
-use Rattle.product.proofs.Entries.{part, at_part, at_front}
-use Rattle.product.proofs.RowLaws.{from_more, summed_made, summed_cong}
+use Rattle.product.proofs.Entries.{part, at_part, at_front, at_after}
+use Rattle.product.proofs.RowLaws.{summed_cong}
 
--- the first of n columns of r entries lies in k entries
-pub first_fits : (n r k : ℕ) → 0 < n → n * r ≤ k → r ≤ k
-first_fits n r k some room = omega (arith, block_fits 0 n r some)
-
-module _ {S M : Type 0} (means : S → M) (o : Ops M) (a : M) (ds xs : List S) where
-  -- the term of the column after l
-  abbrev pub later : ℕ → ℕ → ℕ → M
-  later r i l = o.times (o.times a (run_row means o ds r i (suc l))) (at means o xs (suc l))
+module _ {S M : Type 0} (means : S → M) (o : Ops M) (a : M) where
+  -- the term of column l, in row i of columns of r rows
+  abbrev pub term : List S → List S → ℕ → ℕ → ℕ → M
+  term ds xs r i l = o.times (o.times a (run_row means o ds r i l)) (at means o xs l)
 
   -- one more column is added
-  pub later_more : (ys cur cur' : List S) (l : ℕ) (x : S) → length cur ≡ length ys → length cur' ≡ length cur → 1 ≤ l → l < length xs → x ≡ get_or xs l x
-      → Run means (λ i. sum_from o (at means o ys i) (later (length ys) i) (l - 1)) cur
+  pub added_more : (ds xs ys cur cur' : List S) (l : ℕ) (x : S) → length cur ≡ length ys → length cur' ≡ length cur → l < length xs → x ≡ get_or xs l x
+      → Run means (λ i. sum_from o (at means o ys i) (term ds xs (length ys) i) l) cur
       → Run means (λ i. o.plus (at means o cur i) (o.times (o.times a (at means o ds (l * length cur + i))) (means x))) cur'
-      → Run means (λ i. sum_from o (at means o ys i) (later (length ys) i) (l + 1 - 1)) cur'
-  later_more ys cur cur' l x same same' some below read so_far wrote i d h =
-      let is : l ≡ suc (l - 1) = omega arith in
+      → Run means (λ i. sum_from o (at means o ys i) (term ds xs (length ys) i) (l + 1)) cur'
+  added_more ds xs ys cur cur' l x same same' below read so_far wrote i d h =
+      let next : suc l ≡ l + 1 = omega arith in
       wrote i d h
       ∙ ap₂ o.plus (at_is means o cur i _ (omega arith) (λ e. so_far i e (omega arith)))
-      (ap₂ (λ p q. o.times (o.times a p) q)
-      (ap₂ (λ k r. run_row means o ds r i k) is same)
-      (sym (at_read means o xs l x below read) ∙ ap (at means o xs) is))
-      ∙ sym (from_more o (at means o ys i) (later (length ys) i) l some)
+      (ap₂ (λ r z. o.times (o.times a (run_row means o ds r i l)) z) same (sym (at_read means o xs l x below read)))
+      ∙ ap (sum_from o (at means o ys i) (term ds xs (length ys) i)) next
 
   -- the later columns onto the first
-  pub columns_summed : (b : M) (ys mid cur : List S) (x : S) → length mid ≡ length ys → length cur ≡ length mid → 0 < length xs → length xs * length ys ≤ length ds → x ≡ get_or xs 0 x
+  pub columns_summed : (b : M) (ds later ys mid cur : List S) (x : S) → length mid ≡ length ys → length cur ≡ length mid → suc (length later) * length ys ≤ length ds
       → Run means (λ i. blend o (o.times a (at means o (take (length ys) ds) i)) (means x) b (at means o ys i)) mid
-      → Run means (λ i. sum_from o (at means o mid i) (later (length mid) i) (length xs - 1)) cur
-      → Run means (λ i. summed o (run_row means o ds (length ys) i) 0 (length xs) a b (λ l. at means o xs l) (at means o ys i)) cur
-  columns_summed b ys mid cur x same same' some room read first rest i d h =
-      let fits = first_fits (length xs) (length ys) (length ds) some room in
-      let zeroth : i ≡ 0 * length ys + i = omega arith in
+      → Run means (λ i. sum_from o (at means o mid i) (term (drop (length ys) ds) later (length mid) i) (length later)) cur
+      → Run means (λ i. summed o (run_row means o ds (length ys) i) 0 (suc (length later)) a b (λ l. at means o (x ∷ later) l) (at means o ys i)) cur
+  columns_summed b ds later ys mid cur x same same' room first rest i d h =
+      let r = length ys in
+      let fits : r ≤ length ds = omega (arith, block_fits 0 (suc (length later)) r (omega arith)) in
+      let zeroth : i ≡ 0 * r + i = omega arith in
+      let below : i < r = omega arith in
       rest i d h
-      ∙ summed_made o (run_row means o ds (length ys) i) 0 (length xs) a b (λ l. at means o xs l) (at means o ys i) (at means o mid i) (later (length mid) i) some
+      ∙ ap (λ z. sum_from o z (term (drop r ds) later (length mid) i) (length later))
       (at_is means o mid i _ (omega arith) (λ e. first i e (omega arith))
-      ∙ ap₂ (λ p q. blend o (o.times a p) q b (at means o ys i))
-      (at_front means o (length ys) i ds fits (omega arith) ∙ ap (at means o ds) zeroth)
-      (sym (at_read means o xs 0 x some read)))
-      (λ l. let next : suc l ≡ 0 + suc l = omega arith in
-      ap₂ (λ k r. o.times (o.times a (run_row means o ds r i k)) (at means o xs (suc l))) next same)
+      ∙ ap (λ z. blend o (o.times a z) (means x) b (at means o ys i)) (at_front means o r i ds fits below ∙ ap (at means o ds) zeroth))
+      ∙ sum_same o _ _ _ (length later)
+      (λ l k.
+      let f = block_fits (suc l) (suc (length later)) r (omega arith) in
+      let next : r + (l * r + i) ≡ (0 + suc l) * r + i = omega arith in
+      ap (λ n. o.times (o.times a (run_row means o (drop r ds) n i l)) (at means o later l)) same
+      ∙ ap (λ z. o.times (o.times a z) (at means o later l)) (at_after means o r (l * r + i) ds (omega arith) ∙ ap (at means o ds) next))
 
 module _ {S M : Type 0} (means : S → M) (o : Ops M) (a b : M) (ds xs ys : List S) (from with to n rows : ℕ)
     (table : from + n * rows ≤ length ds) (source : with + n ≤ length xs) (target : to + rows ≤ length ys) where

@@ -1,22 +1,16 @@
--- What an entry means that is read in a loop that fills its run, or in a part of a memory. Assumes nothing.
-use Rattle.std.proofs.Common.{◌≡◌, ℕ, ◌+◌, ◌-◌, ◌<◌, ◌≤◌, List, length, get_or, take, drop, sym, ◌∙◌, arith}
-use Rattle.std.proofs.lemmas.List.{length-take-le, get_or-take}
+-- What an entry means that is read in a part of a memory. Assumes nothing.
+use Rattle.std.proofs.Common.{◌≡◌, ℕ, ◌+◌, ◌-◌, ◌<◌, ◌≤◌, List, length, take, drop, arith}
+use Rattle.std.proofs.lemmas.List.{length-take-le, length-drop, get_or-take, get_or-drop}
 use Rattle.scalar.specs.Ops.{Ops}
 use Rattle.scalar.specs.Sums.{at}
-use Rattle.scalar.proofs.Stored.{at_read, at_same}
-use Rattle.shape.proofs.Parts.{Filled, part_get, length_part}
+use Rattle.scalar.proofs.Stored.{at_same}
+use Rattle.shape.proofs.Parts.{part_get, length_part}
 
 -- the k entries from place a on, as they are lent
 abbrev pub part : {S : Type 0} → ℕ → ℕ → List S → List S
 part a k xs = take ((a + k) - a) (drop a xs)
 
 module _ {S M : Type 0} (means : S → M) (o : Ops M) where
-  -- a read of an entry not yet written
-  pub unwritten : (P : ℕ → S → Type 0) (old cur : List S) (i : ℕ) (x : S) → length cur ≡ length old → i < length old → Filled P old cur i → x ≡ get_or cur i x
-      → at means o old i ≡ means x
-  unwritten P old cur i x same below inv read =
-      sym (at_same means o cur old i i (omega arith) below (λ d. inv.rest i d (omega arith))) ∙ at_read means o cur i x (omega arith) read
-
   -- entry i of a part
   pub at_part : (a k i : ℕ) (xs : List S) → a + k ≤ length xs → i < k → at means o (part a k xs) i ≡ at means o xs (a + i)
   at_part a k i xs fits below =
@@ -28,3 +22,7 @@ module _ {S M : Type 0} (means : S → M) (o : Ops M) where
   at_front n i xs fits below =
       let l : length (take n xs) ≡ n = length-take-le n xs fits in
       at_same means o (take n xs) xs i i (omega arith) (omega arith) (λ d. get_or-take n xs i d below)
+
+  -- an entry after the first n
+  pub at_after : (n i : ℕ) (xs : List S) → n + i < length xs → at means o (drop n xs) i ≡ at means o xs (n + i)
+  at_after n i xs below = at_same means o (drop n xs) xs i (n + i) (let l = length-drop n xs in omega arith) below (λ d. get_or-drop n xs i d)

@@ -9,19 +9,6 @@ use Rattle.vector.specs.Rows.{blend}
 use Rattle.product.specs.Rows.{summed, linear, spread}
 
 module _ {M : Type 0} (o : Ops M) where
-  -- one more term, where the loop counts from 1
-  pub from_more : (a : M) (f : ℕ → M) (l : ℕ) → 1 ≤ l → sum_from o a f (l + 1 - 1) ≡ o.plus (sum_from o a f (l - 1)) (f (l - 1))
-  from_more a f l h = let e : l + 1 - 1 ≡ suc (l - 1) = omega arith in ap (sum_from o a f) e
-
-  -- the first column, and then the later ones
-  pub summed_made : (d : ℕ → M) (start n : ℕ) (a b : M) (x : ℕ → M) (y first : M) (later : ℕ → M) → 0 < n
-      → first ≡ blend o (o.times a (d start)) (x 0) b y → ((l : ℕ) → later l ≡ o.times (o.times a (d (start + suc l))) (x (suc l)))
-      → sum_from o first later (n - 1) ≡ summed o d start n a b x y
-  summed_made d start zero a b x y first later some e h = absurd (omega arith)
-  summed_made d start (suc n) a b x y first later some e h =
-      let less : suc n - 1 ≡ n = omega arith in
-      ap (sum_from o first later) less ∙ ap (λ z. sum_from o z later n) e ∙ sum_same o _ later _ n (λ l k. h l)
-
   -- the same columns, counted from other starts
   pub summed_cong : (d d' : ℕ → M) (start start' n : ℕ) (a b : M) (x x' : ℕ → M) (y y' : M)
       → ((l : ℕ) → l < n → d (start + l) ≡ d' (start' + l)) → ((l : ℕ) → l < n → x l ≡ x' l) → y ≡ y'

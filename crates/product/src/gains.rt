@@ -2,26 +2,17 @@
 ghost use Rattle.std.specs.Prelude.{◌≡◌, ℕ, ◌+◌, ◌*◌, ◌<◌, ◌≤◌, length, slice_index_or};
 ghost use Rattle.scalar.specs.Sums.{at};
 ghost use Rattle.shape.specs.Changes.{RunChanged};
-ghost use Rattle.product.specs.Results.{Run, in_block};
+ghost use Rattle.product.specs.Results.{in_block};
 
+use crate::runs::rewrite;
 use scalar::{Scalar, Scale};
-
-/// y gains c·p.
-fn gain_run<S: Scalar>(c: S, p: &[S], y: &mut [S])
-    requires { length p.now ≡ length y.old }
-    ensures { Run S.means (λ i. S.ops.plus (at S.means S.ops y.old i) (S.ops.times (S.means c) (at S.means S.ops p.now i))) y.new }
-{
-    for i in 0..y.len() {
-        y[i] = y[i].add(c.mul(p[i]));
-    }
-}
 
 /// The column of y that starts at place `to` gains c·p.
 fn gain_column<S: Scalar>(c: S, p: &[S], y: &mut [S], to: usize)
     requires { to + length p.now ≤ length y.old }
     ensures { RunChanged to (length p.now) (λ i v. S.means v ≡ S.ops.plus (at S.means S.ops y.old (to + i)) (S.ops.times (S.means c) (at S.means S.ops p.now i))) y.old y.new }
 {
-    gain_run(c, p, &mut y[to..to + p.len()]);
+    rewrite(&mut y[to..to + p.len()], |i, v| v.add(c.mul(p[i])));
 }
 
 /// Column l of y, each as long as p, gains (a·x_l)·p.

@@ -6,6 +6,7 @@ mod check;
 mod gains;
 pub mod multiply;
 pub mod outer;
+mod runs;
 mod sums;
 
 pub use multiply::{gemv, gemv_cols};

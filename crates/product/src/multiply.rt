@@ -1,5 +1,5 @@
 //! gemv and gemv_cols: columns of a table times coefficients, summed into a column.
-ghost use Rattle.std.specs.Prelude.{◌≡◌, ◌-◌, length, ◌≢◌};
+ghost use Rattle.std.specs.Prelude.{◌≡◌, ◌-◌, length, OnOk, OnErr};
 ghost use Rattle.shape.specs.Refusals.{answer, first_of};
 ghost use Rattle.product.specs.Rows.{summed, linear};
 ghost use Rattle.product.specs.Tests.{gemv_tests, GemvLawful, gemv_cols_tests, RangeLawful, ProductLawful};
@@ -8,7 +8,7 @@ ghost use Rattle.product.specs.Results.{broadcast, Applied, Gemv, GemvCols};
 use crate::check::{check_gemv, check_range};
 use crate::sums::sum_part;
 use scalar::{Scalar, Scale};
-use shape::lanes::{lane_for, no_broadcast};
+use shape::lanes::lane_for;
 use shape::{Band, Column, Refusal, TableShape};
 
 /// Every lane of an accepted call: a band's columns times the rows of x, into y.
@@ -93,9 +93,9 @@ pub fn gemv<S: Scalar>(
     ys: &mut [S],
 ) -> Result<(), Refusal>
     ensures verdict { answer result ≡ first_of (gemv_tests t (length ts.now) x (length xs.now) y (length ys.old)) }
-    ensures accepted { answer result ≡ 0 → Gemv S.means S.ops (summed S.ops) (S.means a.0) t ts.now x xs.now (S.means b.0) y ys.old ys.new }
-    ensures exact { S.exact → answer result ≡ 0 → Gemv S.means S.ops (linear S.ops) (S.means a.0) t ts.now x xs.now (S.means b.0) y ys.old ys.new }
-    ensures refused { (answer result ≢ 0) → ys.new ≡ ys.old }
+    ensures accepted { OnOk result (Gemv S.means S.ops (summed S.ops) (S.means a.0) t ts.now x xs.now (S.means b.0) y ys.old ys.new) }
+    ensures exact { S.exact → OnOk result (Gemv S.means S.ops (linear S.ops) (S.means a.0) t ts.now x xs.now (S.means b.0) y ys.old ys.new) }
+    ensures refused { OnErr result (ys.new ≡ ys.old) }
 {
     check_gemv(t, ts.len(), x, xs.len(), y, ys.len())?;
     gemv_lanes(a, t, ts, x, xs, b, y, ys);
@@ -120,12 +120,12 @@ pub fn gemv_cols<S: Scalar>(
     ys: &mut [S],
 ) -> Result<(), Refusal>
     ensures verdict { answer result ≡ first_of (gemv_cols_tests t (length ts.now) start end (length x.now) y (length ys.old)) }
-    ensures accepted { answer result ≡ 0 → GemvCols S.means S.ops (summed S.ops) (S.means a.0) t ts.now start (end - start) x.now (S.means b.0) y ys.old ys.new }
-    ensures exact { S.exact → answer result ≡ 0 → GemvCols S.means S.ops (linear S.ops) (S.means a.0) t ts.now start (end - start) x.now (S.means b.0) y ys.old ys.new }
-    ensures refused { (answer result ≢ 0) → ys.new ≡ ys.old }
+    ensures accepted { OnOk result (GemvCols S.means S.ops (summed S.ops) (S.means a.0) t ts.now start (end - start) x.now (S.means b.0) y ys.old ys.new) }
+    ensures exact { S.exact → OnOk result (GemvCols S.means S.ops (linear S.ops) (S.means a.0) t ts.now start (end - start) x.now (S.means b.0) y ys.old ys.new) }
+    ensures refused { OnErr result (ys.new ≡ ys.old) }
 {
-    let apart = no_broadcast(t.lanes, y.of.lanes);
-    check_range(t, ts.len(), start, end, x.len(), y, ys.len(), apart)?;
+    let (source, lanes) = (t.lanes, y.of.lanes);
+    check_range(t, ts.len(), start, end, x.len(), y, ys.len(), source, lanes)?;
     gemv_cols_lanes(a, t, ts, start, end - start, x, b, y, ys);
     Ok(())
 }

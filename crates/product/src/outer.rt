@@ -1,5 +1,5 @@
 //! ger_cols: columns of a table gain the outer product of a column with coefficients.
-ghost use Rattle.std.specs.Prelude.{◌≡◌, ◌-◌, length, ◌≢◌};
+ghost use Rattle.std.specs.Prelude.{◌≡◌, ◌-◌, length, OnOk, OnErr};
 ghost use Rattle.shape.specs.Refusals.{answer, first_of};
 ghost use Rattle.product.specs.Tests.{ger_cols_tests, RangeLawful};
 ghost use Rattle.product.specs.Results.{GerCols};
@@ -7,7 +7,7 @@ ghost use Rattle.product.specs.Results.{GerCols};
 use crate::check::check_range;
 use crate::gains::gain_part;
 use scalar::{Scalar, Scale};
-use shape::lanes::{lane_for, no_broadcast};
+use shape::lanes::lane_for;
 use shape::{Band, Column, Refusal, TableShape};
 
 /// Every lane of an accepted call: as many columns gain as there are coefficients.
@@ -66,11 +66,11 @@ pub fn ger_cols<S: Scalar>(
     end: usize,
 ) -> Result<(), Refusal>
     ensures verdict { answer result ≡ first_of (ger_cols_tests t (length ts.old) start end (length x.now) p (length ps.now)) }
-    ensures accepted { answer result ≡ 0 → GerCols S.means S.ops (S.means a.0) x.now p ps.now t start (end - start) ts.old ts.new }
-    ensures refused { (answer result ≢ 0) → ts.new ≡ ts.old }
+    ensures accepted { OnOk result (GerCols S.means S.ops (S.means a.0) x.now p ps.now t start (end - start) ts.old ts.new) }
+    ensures refused { OnErr result (ts.new ≡ ts.old) }
 {
-    let apart = no_broadcast(p.of.lanes, t.lanes);
-    check_range(t, ts.len(), start, end, x.len(), p, ps.len(), apart)?;
+    let (source, lanes) = (p.of.lanes, t.lanes);
+    check_range(t, ts.len(), start, end, x.len(), p, ps.len(), source, lanes)?;
     ger_cols_lanes(a, x, p, ps, t, ts, start, end - start);
     Ok(())
 }

@@ -1,70 +1,23 @@
 //! The inner loops of gemv and gemv_cols, on runs of memory: nothing here knows of shapes or
 //! lanes. What does not depend on the row, as the test of b, is done before a loop.
-ghost use Rattle.std.specs.Prelude.{◌≡◌, suc, ◌+◌, ◌-◌, ◌*◌, ◌<◌, ◌≤◌, length, if◌then◌else◌};
+ghost use Rattle.std.specs.Prelude.{◌≡◌, ◌+◌, ◌*◌, ◌<◌, ◌≤◌, length, if◌then◌else◌};
 ghost use Rattle.scalar.specs.Sums.{at, sum_from};
 ghost use Rattle.shape.specs.Changes.{RunChanged};
 ghost use Rattle.vector.specs.Rows.{blend};
 ghost use Rattle.product.specs.Rows.{summed};
 ghost use Rattle.product.specs.Results.{Run, run_row};
 
+use crate::runs::rewrite;
 use scalar::{Scalar, Scale};
-
-/// y becomes zero.
-fn clear_run<S: Scalar>(y: &mut [S])
-    ensures { Run S.means (λ i. S.ops.zero) y.new }
-{
-    for i in 0..y.len() {
-        y[i] = S::zero();
-    }
-}
-
-/// y becomes b·y.
-fn scale_run<S: Scalar>(b: Scale<S>, y: &mut [S])
-    ensures { Run S.means (λ i. S.ops.times (S.means b.0) (at S.means S.ops y.old i)) y.new }
-{
-    for i in 0..y.len() {
-        y[i] = b.0.mul(y[i]);
-    }
-}
-
-/// y becomes (a·d)·x.
-fn assign_run<S: Scalar>(a: Scale<S>, d: &[S], x: S, y: &mut [S])
-    requires { length d.now ≡ length y.old }
-    ensures { Run S.means (λ i. S.ops.times (S.ops.times (S.means a.0) (at S.means S.ops d.now i)) (S.means x)) y.new }
-{
-    for i in 0..y.len() {
-        y[i] = a.0.mul(d[i]).mul(x);
-    }
-}
-
-/// y becomes (a·d)·x + b·y.
-fn combine_run<S: Scalar>(a: Scale<S>, d: &[S], x: S, b: Scale<S>, y: &mut [S])
-    requires { length d.now ≡ length y.old }
-    ensures { Run S.means (λ i. S.ops.plus (S.ops.times (S.ops.times (S.means a.0) (at S.means S.ops d.now i)) (S.means x)) (S.ops.times (S.means b.0) (at S.means S.ops y.old i))) y.new }
-{
-    for i in 0..y.len() {
-        y[i] = a.0.mul(d[i]).mul(x).add(b.0.mul(y[i]));
-    }
-}
-
-/// y gains (a·d)·x.
-fn add_run<S: Scalar>(a: Scale<S>, d: &[S], x: S, y: &mut [S])
-    requires { length d.now ≡ length y.old }
-    ensures { Run S.means (λ i. S.ops.plus (at S.means S.ops y.old i) (S.ops.times (S.ops.times (S.means a.0) (at S.means S.ops d.now i)) (S.means x))) y.new }
-{
-    for i in 0..y.len() {
-        y[i] = y[i].add(a.0.mul(d[i]).mul(x));
-    }
-}
 
 /// What no columns give: b·y, or zero where b is zero.
 fn no_columns<S: Scalar>(b: Scale<S>, y: &mut [S])
     ensures { Run S.means (λ i. (if S.ops.is_zero (S.means b.0) then S.ops.zero else S.ops.times (S.means b.0) (at S.means S.ops y.old i))) y.new }
 {
     if b.0.is_zero() {
-        clear_run(y);
+        rewrite(y, |_, _| S::zero());
     } else {
-        scale_run(b, y);
+        rewrite(y, |_, v| b.0.mul(v));
     }
 }
 
@@ -74,9 +27,9 @@ fn first_column<S: Scalar>(a: Scale<S>, d: &[S], x: S, b: Scale<S>, y: &mut [S])
     ensures { Run S.means (λ i. blend S.ops (S.ops.times (S.means a.0) (at S.means S.ops d.now i)) (S.means x) (S.means b.0) (at S.means S.ops y.old i)) y.new }
 {
     if b.0.is_zero() {
-        assign_run(a, d, x, y);
+        rewrite(y, |i, _| a.0.mul(d[i]).mul(x));
     } else {
-        combine_run(a, d, x, b, y);
+        rewrite(y, |i, v| a.0.mul(d[i]).mul(x).add(b.0.mul(v)));
     }
 }
 
@@ -85,18 +38,17 @@ fn add_column<S: Scalar>(a: Scale<S>, d: &[S], from: usize, x: S, y: &mut [S])
     requires { from + length y.old ≤ length d.now }
     ensures { Run S.means (λ i. S.ops.plus (at S.means S.ops y.old i) (S.ops.times (S.ops.times (S.means a.0) (at S.means S.ops d.now (from + i))) (S.means x))) y.new }
 {
-    let rows = y.len();
-    add_run(a, &d[from..from + rows], x, y);
+    let column = &d[from..from + y.len()];
+    rewrite(y, |i, v| v.add(a.0.mul(column[i]).mul(x)));
 }
 
-/// y gains the columns after the first.
-fn later_columns<S: Scalar>(a: Scale<S>, d: &[S], x: &[S], y: &mut [S])
-    requires some { 0 < length x.now }
-    requires room { length x.now * length y.old ≤ length d.now }
-    ensures { Run S.means (λ i. sum_from S.ops (at S.means S.ops y.old i) (λ l. S.ops.times (S.ops.times (S.means a.0) (run_row S.means S.ops d.now (length y.old) i (suc l))) (at S.means S.ops x.now (suc l))) (length x.now - 1)) y.new }
+/// y gains d's columns, each as long as y, times a and the coefficients x.
+fn add_columns<S: Scalar>(a: Scale<S>, d: &[S], x: &[S], y: &mut [S])
+    requires { length x.now * length y.old ≤ length d.now }
+    ensures { Run S.means (λ i. sum_from S.ops (at S.means S.ops y.old i) (λ l. S.ops.times (S.ops.times (S.means a.0) (run_row S.means S.ops d.now (length y.old) i l)) (at S.means S.ops x.now l)) (length x.now)) y.new }
 {
-    for l in 1..x.len() {
-        add_column(a, d, l * y.len(), x[l], y);
+    for (l, c) in x.iter().enumerate() {
+        add_column(a, d, l * y.len(), *c, y);
     }
 }
 
@@ -105,11 +57,13 @@ fn sum_columns<S: Scalar>(a: Scale<S>, d: &[S], x: &[S], b: Scale<S>, y: &mut [S
     requires { length x.now * length y.old ≤ length d.now }
     ensures { Run S.means (λ i. summed S.ops (run_row S.means S.ops d.now (length y.old) i) 0 (length x.now) (S.means a.0) (S.means b.0) (λ l. at S.means S.ops x.now l) (at S.means S.ops y.old i)) y.new }
 {
-    if x.is_empty() {
-        no_columns(b, y);
-    } else {
-        first_column(a, &d[..y.len()], x[0], b, y);
-        later_columns(a, d, x, y);
+    match x.split_first() {
+        None => no_columns(b, y),
+        Some((c, later)) => {
+            let (first, columns) = d.split_at(y.len());
+            first_column(a, first, *c, b, y);
+            add_columns(a, columns, later, y);
+        }
     }
 }
 

@@ -1,15 +1,8 @@
 use Rattle.std.proofs.Common.{◌∙◌, arith}
 use Rattle.shape.specs.Changes.{LanesBand}
-use Rattle.shape.proofs.Cells.{lanes_none, lanes_all}
 use Rattle.differences.proofs.Pieces.{lane_more}
 use Rattle.differences.proofs.MulColsLaws.{multiplied_kept}
 use Rattle.differences.proofs.multiply.multiply_lanes.Goals as goal
-
-pub loop-lane-init : goal.loop-lane-init
-loop-lane-init g c = lanes_none _ _ _ _ _
-
-pub multiply_lane-requires : goal.multiply_lane-requires
-multiply_lane-requires g c = record { law = rw (c.loop-lane.auto.ts, c.loop-lane.auto.work) c.requires; lane = c.loop-lane-test.true }
 
 pub loop-lane-preserved : goal.loop-lane-preserved
 loop-lane-preserved g c =
@@ -23,6 +16,3 @@ loop-lane-preserved g c =
     (λ j i v w low high q. q ∙ multiplied_kept s.means s.ops t m c.args.numbers.now (LanesBand n 0 m.size) _ old cur c.requires.fits c.loop-lane.auto.ts c.requires.within c.loop-lane.invariant n j i w (omega arith) (λ l less x. omega arith))
     c.loop-lane.invariant
     c.multiply_lane.ensures
-
-pub returns : goal.returns
-returns g c = lanes_all _ _ _ _ _ _ _ c.loop-lane-test.false c.loop-lane.invariant

@@ -1,4 +1,3 @@
-use Rattle.std.proofs.Common.{◌-◌}
 use Rattle.shape.specs.Changes.{Changed, meant}
 use Rattle.differences.specs.MulCols.{cell_multiplied}
 use Rattle.differences.specs.Tiles.{RowsAbove}
@@ -8,6 +7,3 @@ abbrev pub invariant-loop-row : goal.invariant-loop-row
 invariant-loop-row g l =
     let s = g.S.Scalar in
     Changed l.t (RowsAbove l.lane l.row l.m.size) (meant s.means (cell_multiplied s.means s.ops l.t l.m l.numbers l.initial.ts)) l.initial.ts l.ts
-
-abbrev pub decreases-loop-row : goal.decreases-loop-row
-decreases-loop-row g l = l.t.rows - l.row

@@ -10,9 +10,6 @@ use Rattle.product.specs.Results.{run_row}
 use Rattle.differences.proofs.RowLaws.{multiplied_cong}
 use Rattle.differences.proofs.tile.multiply_tile.Goals as goal
 
-pub write_tile-requires : goal.write_tile-requires
-write_tile-requires g c = record { fits = c.requires.law.fits; tile = c.requires.tile; within = c.requires.law.within; small = c.requires.law.small; room = omega (arith, c.stage.auto.work) }
-
 pub returns : goal.returns
 returns g c =
     let s = g.S.Scalar in

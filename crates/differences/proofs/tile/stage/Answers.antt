@@ -1,18 +1,8 @@
-use Rattle.std.proofs.Common.{◌≡◌, ◌+◌, ◌*◌, ◌<◌, length, get_or, ap, ◌∙◌, inl, inr, arith}
+use Rattle.std.proofs.Common.{◌≡◌, ◌+◌, ◌*◌, ◌<◌, get_or, ap, ◌∙◌, inl, inr, arith}
 use lib.Arith.{digits_lt}
 use Rattle.std.proofs.lemmas.Bool.{cases_eq}
 use Rattle.shape.specs.Shapes.{cell}
-use Rattle.shape.proofs.Blocks.{block_fits, band_fits}
 use Rattle.differences.proofs.tile.stage.Goals as goal
-
-pub loop-l-init : goal.loop-l-init
-loop-l-init g c = λ l r d h n. absurd (omega arith)
-
-pub copy_part-requires : goal.copy_part-requires
-copy_part-requires g c =
-    let f = band_fits c.args.t (length c.args.ts.now) c.args.tile.lane c.loop-l.l 1 c.requires.fits c.requires.tile.lane (omega arith) in
-    let b = block_fits c.loop-l.l c.args.k c.args.tile.height c.loop-l-test.true in
-    record { source = omega arith; target = omega arith }
 
 pub loop-l-preserved : goal.loop-l-preserved
 loop-l-preserved g c = λ m r d h n.
@@ -27,6 +17,3 @@ loop-l-preserved g c = λ m r d h n.
           let q : m * height + r < l * height = digits_lt before n in
           c.copy_part.ensures.kept (m * height + r) d (inl q) ∙ c.loop-l.invariant m r d before n
     ]
-
-pub returns : goal.returns
-returns g c = λ l r d h n. c.loop-l.invariant l r d (omega arith) n

@@ -1,18 +1,9 @@
-use Rattle.std.proofs.Common.{ℕ, ◌+◌, ◌-◌, length, sym, ap, ◌∙◌, inl, inr, arith}
+use Rattle.std.proofs.Common.{ℕ, ◌+◌, ◌-◌, sym, ap, ◌∙◌, inl, inr, arith}
 use Rattle.std.proofs.lemmas.Bool.{cases_eq}
-use Rattle.shape.proofs.Blocks.{band_fits}
-use Rattle.shape.proofs.Cells.{changed_none, changed_more, changed_as}
+use Rattle.shape.proofs.Cells.{changed_more}
 use Rattle.differences.specs.Tiles.{InTile, staged_product}
 use Rattle.differences.proofs.Pieces.{InPiece, piece_changed}
 use Rattle.differences.proofs.tile.write_tile.Goals as goal
-
-pub write_part-requires : goal.write_part-requires
-write_part-requires g c =
-    let f = band_fits c.args.t (length c.args.ts.now) c.args.tile.lane c.loop-j.j 1 c.requires.fits c.requires.tile.lane (omega arith) in
-    record { small = c.requires.small; j = c.loop-j-test.true; room = c.requires.room; target = omega arith }
-
-pub loop-j-init : goal.loop-j-init
-loop-j-init g c = changed_none _ _ _ _ (λ b j i h. omega arith)
 
 pub loop-j-preserved : goal.loop-j-preserved
 loop-j-preserved g c =
@@ -28,6 +19,3 @@ loop-j-preserved g c =
     (λ b j i v w h q. q ∙ ap (λ z. new z (i - tile.row)) (sym h.1))
     c.loop-j.invariant
     (piece_changed t tile.lane n tile.row tile.height c.start.result _ c.loop-j.ts c.write_part.new.ts c.start.ensures c.requires.tile.rows (omega arith) c.write_part.ensures)
-
-pub returns : goal.returns
-returns g c = changed_as _ _ _ _ _ _ _ (λ b j i w h. (h.0, h.1, h.2, omega arith)) (λ b j i w h. (h.0, h.1, h.2, omega arith)) (λ b j i v w h q. q) c.loop-j.invariant

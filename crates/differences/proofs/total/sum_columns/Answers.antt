@@ -1,3 +1,4 @@
+use Rattle.shape.proofs.Answered.{on_ok}
 use Rattle.std.proofs.Common.{◌≡◌, ◌+◌, ◌-◌, length, ap, ◌∙◌, arith}
 use Rattle.scalar.specs.Sums.{at}
 use Rattle.scalar.proofs.Stored.{at_is}
@@ -20,7 +21,7 @@ returns g c =
     let ds = c.args.ds.now in
     let work = c.fill_ones.new.work in
     let law : TransposeLawful t (length ts) k d (length ds) (length work) = rw c.fill_ones.auto.work c.requires in
-    let done = c.gemv_cols.ensures.accepted (c.gemv_cols.ensures.verdict ∙ sum_accepted t (length ts) k d (length ds) (length work) law) in
+    let done = (on_ok c.gemv_cols.result c.gemv_cols.ensures.accepted) (c.gemv_cols.ensures.verdict ∙ sum_accepted t (length ts) k d (length ds) (length work) law) in
     changed_as d.of (InColumn d.col) (InColumn d.col) _ _ ds c.gemv_cols.new.ys (λ b j i w h. h) (λ b j i w h. h)
     (λ b j i v w h q.
     let x = row_for s.means s.ops t ts d b i in

@@ -1,5 +1,4 @@
 use Rattle.std.proofs.Common.{◌+◌, refl, ◌∙◌, arith}
-use Rattle.scalar.specs.Ops.{Ring}
 use Rattle.product.specs.Results.{row_of}
 use Rattle.differences.specs.Transposes.{row_for}
 use Rattle.differences.proofs.TransposeLaws.{transposed_sums, transposed_negated, transposed_cleared, ones_sum}
@@ -8,7 +7,6 @@ use Rattle.differences.proofs.transpose.transpose_lanes.Goals as goal
 pub returns : goal.returns
 returns g c =
     let s = g.S.Scalar in
-    let m = g.met.S.Scalar in
     let k = c.args.order in
     let row = row_of s.means s.ops c.args.t c.args.ts.now in
     let sum = c.sum_columns.ensures in
@@ -16,21 +14,11 @@ returns g c =
     record {
       columns = record { sum_in_d = sum; columns = columns };
       sums = λ e.
-          let r : Ring s.ops = record {
-            plus_assoc = m.plus_assoc e;
-            plus_comm = m.plus_comm e;
-            plus_zero = m.plus_zero e;
-            plus_minus = m.plus_minus e;
-            times_assoc = m.times_assoc e;
-            times_comm = m.times_comm e;
-            times_one = m.times_one e;
-            times_plus = m.times_plus e;
-            zero_only = m.zero_only e;
-          } in
+          let r = g.met.S.Scalar.ring e in
           record {
             sums = λ b j i d w h. columns.written b j i d w (omega arith, omega arith) ∙ transposed_sums s.ops r (row b i) k j h;
             negated = λ b i d w. columns.written b (k + 1) i d w (omega arith, omega arith) ∙ transposed_negated s.ops r (row b i) k;
             cleared = λ b i d w. columns.written b (k + 2) i d w (omega arith, omega arith) ∙ transposed_cleared s.ops r (row b i) k;
-            sum_in_d = λ b i d w. sum.written b c.args.d.col i d w refl ∙ ones_sum s.ops r m.zero_is_zero (row_for s.means s.ops c.args.t c.args.ts.now c.args.d b i) (k + 3) (omega arith);
+            sum_in_d = λ b i d w. sum.written b c.args.d.col i d w refl ∙ ones_sum s.ops r g.met.S.Scalar.zero_is_zero (row_for s.means s.ops c.args.t c.args.ts.now c.args.d b i) (k + 3) (omega arith);
           };
     }

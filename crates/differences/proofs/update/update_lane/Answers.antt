@@ -1,14 +1,16 @@
-use Rattle.std.proofs.Common.{◌≡◌, ℕ, ◌+◌, ◌-◌, length, sym, ap, ◌∙◌, inl, inr, arith}
+use Rattle.std.proofs.Common.{◌≡◌, ℕ, ◌+◌, ◌-◌, length, sym, ap, ap₂, ◌∙◌, inl, inr, arith}
 use Rattle.std.proofs.lemmas.Bool.{cases_eq}
 use Rattle.scalar.specs.Sums.{at}
 use Rattle.scalar.proofs.Stored.{at_is}
 use Rattle.shape.specs.Shapes.{start, cell, In}
 use Rattle.shape.specs.Changes.{Changed, LaneBand, meant}
 use Rattle.shape.proofs.Blocks.{band_fits, cell_fits}
+use Rattle.shape.proofs.Parts.{length_part}
+use Rattle.product.proofs.Entries.{at_part}
 use Rattle.shape.proofs.Cells.{changed_as, changed_more}
 use Rattle.product.specs.Results.{row_of}
 use Rattle.differences.specs.Updates.{cell_updated_by}
-use Rattle.differences.proofs.Pieces.{start_next, column_changed, rest_means}
+use Rattle.differences.proofs.Pieces.{column_start, start_next, column_changed, rest_means}
 use Rattle.differences.proofs.RowLaws.{accumulated_updated, updated_last}
 use Rattle.differences.proofs.update.update_lane.Goals as goal
 
@@ -18,15 +20,13 @@ difference_run-requires g c =
     let len = length c.args.ts.now in
     let lane = c.args.lane in
     let k = c.args.order in
-    let to = c.start.ensures len (record { fits = c.requires.fits; within = c.requires.within }) c.requires.lane in
-    let less = c.start-2.ensures len (record { fits = c.requires.fits; within = omega arith }) c.requires.lane in
+    let to = column_start t len lane (k + 2) c.start-to.result c.column.result c.column.ensures c.start-to.ensures c.requires.fits c.requires.lane c.requires.within in
+    let less = column_start t len lane (k + 1) c.start-before.result c.column-2.result c.column-2.ensures c.start-before.ensures c.requires.fits c.requires.lane (omega arith) in
     let next : start t lane (k + 1 + 1) ≡ start t lane (k + 1) + t.rows = start_next t lane (k + 1) in
     let same : start t lane (k + 1 + 1) ≡ start t lane (k + 2) = let e : k + 1 + 1 ≡ k + 2 = omega arith in ap (start t lane) e in
     let f = band_fits t len lane (k + 2) 1 c.requires.fits c.requires.lane (omega arith) in
-    record { apart = omega arith; fits = omega arith; source = c.requires.source }
-
-pub accumulate_lane-requires : goal.accumulate_lane-requires
-accumulate_lane-requires g c = record { fits = rw c.difference_run.auto.ts c.requires.fits; lane = c.requires.lane; within = c.requires.within }
+    let long = length_part c.args.ds.now c.args.from t.rows c.requires.source in
+    record { apart = omega arith; fits = omega arith }
 
 pub returns : goal.returns
 returns g c =
@@ -37,19 +37,19 @@ returns g c =
     let old = c.args.ts.now in
     let mid = c.difference_run.new.ts in
     let ds = c.args.ds.now in
-    let to : c.start.result ≡ start t lane (k + 2) = c.start.ensures (length old) (record { fits = c.requires.fits; within = c.requires.within }) c.requires.lane in
-    let less : c.start-2.result ≡ start t lane (k + 1) = c.start-2.ensures (length old) (record { fits = c.requires.fits; within = omega arith }) c.requires.lane in
+    let to = column_start t (length old) lane (k + 2) c.start-to.result c.column.result c.column.ensures c.start-to.ensures c.requires.fits c.requires.lane c.requires.within in
+    let less = column_start t (length old) lane (k + 1) c.start-before.result c.column-2.result c.column-2.ensures c.start-before.ensures c.requires.fits c.requires.lane (omega arith) in
     let new = cell_updated_by s.means s.ops t k ds c.args.from old in
-    let before : (b i : ℕ) → b ≡ lane → at s.means s.ops old (c.start-2.result + i) ≡ row_of s.means s.ops t old b i (k + 1) =
+    let before : (b i : ℕ) → b ≡ lane → at s.means s.ops old (c.start-before.result + i) ≡ row_of s.means s.ops t old b i (k + 1) =
     λ b i e. ap (λ z. at s.means s.ops old (z + i)) less ∙ ap (λ z. at s.means s.ops old (cell t z (k + 1) i)) (sym e) in
     let last : Changed t (LaneBand lane (k + 2) 1) (meant s.means new) old mid =
     changed_as t (LaneBand lane (k + 2) 1) (LaneBand lane (k + 2) 1) _ _ old mid (λ b j i w h. h) (λ b j i w h. h)
     (λ b j i v w h q.
     let column : j ≡ k + 2 = omega arith in
-    q ∙ ap (λ z. s.ops.plus (at s.means s.ops ds (c.args.from + i)) (s.ops.minus z)) (before b i h.0)
+    q ∙ ap₂ (λ y z. s.ops.plus y (s.ops.minus z)) (at_part s.means s.ops c.args.from t.rows i ds c.requires.source w.row) (before b i h.0)
     ∙ sym (updated_last s.ops (row_of s.means s.ops t old b i) (at s.means s.ops ds (c.args.from + i)) k)
     ∙ ap (λ z. new b z i) (sym column))
-    (column_changed t lane (k + 2) c.start.result _ old mid to c.requires.within c.difference_run.ensures) in
+    (column_changed t lane (k + 2) c.start-to.result _ old mid to c.requires.within (rw (length_part ds c.args.from t.rows c.requires.source) at c.difference_run.ensures)) in
     changed_more t (LaneBand lane (k + 2) 1) (LaneBand lane 0 (k + 2 - 0)) (LaneBand lane 0 (k + 3)) (meant s.means new) _ old mid c.accumulate_lane.new.ts
     (λ b j i w h. elim (cases_eq j (k + 2)) [ inl e ↦ inr ((λ x. omega arith), (h.0, omega arith, omega arith)) | inr ne ↦ inl (h.0, omega arith, omega arith) ])
     (λ b j i h. (h.0, omega arith, omega arith))

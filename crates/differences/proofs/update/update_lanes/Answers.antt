@@ -2,20 +2,15 @@ use Rattle.std.proofs.Common.{◌+◌, length, ap, ◌∙◌, arith}
 use Rattle.scalar.specs.Sums.{at}
 use Rattle.shape.specs.Changes.{LanesBand}
 use Rattle.shape.proofs.Broadcast.{reads_from, reads_within}
-use Rattle.shape.proofs.Cells.{lanes_none, lanes_all}
 use Rattle.product.specs.Results.{row_of}
 use Rattle.differences.proofs.Pieces.{lane_more, rest_means}
 use Rattle.differences.proofs.RowLaws.{updated_cong}
 use Rattle.differences.proofs.update.update_lanes.Goals as goal
 
-pub loop-lane-init : goal.loop-lane-init
-loop-lane-init g c = lanes_none _ _ _ _ _
-
-pub update_lane-requires : goal.update_lane-requires
-update_lane-requires g c =
-    let l = c.loop-lane-test.true in
-    let within = reads_within c.args.d (length c.args.ds.now) c.args.t.lanes c.loop-lane.lane c.lane_for.result c.start-from.result c.requires.source l c.requires.fits.few_lanes c.lane_for.ensures c.start-from.ensures in
-    record { fits = rw c.loop-lane.auto.ts c.requires.fits; lane = l; within = c.requires.within; source = omega (arith, c.requires.rows) }
+pub update_lane-requires-clause-source : goal.update_lane-requires-clause-source
+update_lane-requires-clause-source g c =
+    let within = reads_within c.args.d (length c.args.ds.now) c.args.t.lanes c.loop-lane.lane c.lane_for.result c.start-from.result c.requires.source c.loop-lane-test.true c.requires.fits.few_lanes c.lane_for.ensures c.start-from.ensures in
+    omega (arith, c.requires.rows)
 
 pub loop-lane-preserved : goal.loop-lane-preserved
 loop-lane-preserved g c =
@@ -35,6 +30,3 @@ loop-lane-preserved g c =
     (ap (λ a. at s.means s.ops ds (a + i)) from))
     c.loop-lane.invariant
     c.update_lane.ensures
-
-pub returns : goal.returns
-returns g c = lanes_all _ _ _ _ _ _ _ c.loop-lane-test.false c.loop-lane.invariant

@@ -1,5 +1,4 @@
 use Rattle.std.proofs.Common.{length}
-use Rattle.shape.proofs.Cells.{lanes_none, column_all}
 use Rattle.product.proofs.Products.{lane_placed, runs_inside, lane_more}
 use Rattle.product.proofs.multiply.band_lanes.Goals as goal
 
@@ -14,9 +13,6 @@ sum_part-requires g c =
     let inside = runs_inside c.args.t tl c.args.x xl c.args.y yl c.requires c.loop-lane.lane c.start-from.result c.start-with.result c.start-to.result l placed in
     record { table = inside.table; source = inside.source; target = rw c.loop-lane.auto.ys inside.target }
 
-pub loop-lane-init : goal.loop-lane-init
-loop-lane-init g c = lanes_none _ _ _ _ _
-
 pub loop-lane-preserved : goal.loop-lane-preserved
 loop-lane-preserved g c =
     let s = g.S.Scalar in
@@ -28,6 +24,3 @@ loop-lane-preserved g c =
     c.lane_for.result c.lane_for-in-loop-lane.result c.lane_for.ensures c.start-from.ensures c.lane_for-in-loop-lane.ensures c.start-with.ensures c.start-to.ensures in
     lane_more s.means s.ops (s.means c.args.a.0) (s.means c.args.b.0) c.args.t ts c.args.x xs c.args.y old c.requires
     c.loop-lane.lane c.start-from.result c.start-with.result c.start-to.result c.loop-lane.ys c.sum_part.new.ys l c.loop-lane.auto.ys placed c.loop-lane.invariant c.sum_part.ensures
-
-pub returns : goal.returns
-returns g c = column_all _ _ _ _ _ _ c.loop-lane-test.false c.loop-lane.invariant

@@ -1,5 +1,4 @@
-use Rattle.std.proofs.Common.{subst, rules}
-use Rattle.scalar.specs.Ops.{Ring}
+use Rattle.std.proofs.Common.{subst}
 use Rattle.shape.specs.declared.operand.Band.{Band}
 use Rattle.product.specs.Rows.{summed}
 use Rattle.product.specs.Results.{broadcast, Applied}
@@ -9,8 +8,7 @@ use Rattle.product.proofs.multiply.gemv_lanes.Goals as goal
 pub returns : goal.returns
 returns g c =
     let s = g.S.Scalar in
-    let m = g.met.S.Scalar in
     let x = broadcast s.means s.ops c.args.x c.args.xs.now c.args.y.of.lanes in
     let done = subst (λ (q : Band). Applied s.means s.ops (summed s.ops) (s.means c.args.a.0) q.of c.args.ts.now q.first q.count x (s.means c.args.b.0) c.args.y c.args.ys.now c.band_lanes.new.ys)
     c.band.ensures c.band_lanes.ensures in
-    record { sums = done; exact = λ e. let r : Ring s.ops = search rules in applied_linear s.means s.ops _ _ _ _ _ _ _ _ _ x r done }
+    record { sums = done; exact = λ e. applied_linear s.means s.ops _ _ _ _ _ _ _ _ _ x (g.met.S.Scalar.ring e) done }

@@ -1,5 +1,4 @@
 use Rattle.std.proofs.Common.{◌≤◌, length, arith}
-use Rattle.shape.proofs.Cells.{lanes_none, lanes_all}
 use Rattle.shape.proofs.Broadcast.{reads_from}
 use Rattle.product.proofs.Updates.{runs_inside, spread_more}
 use Rattle.product.proofs.outer.spread_lanes.Goals as goal
@@ -18,9 +17,6 @@ gain_part-requires g c =
     let inside = runs_inside t tl c.args.start (length c.args.x.now) p pl lane c.start-from.result c.start.result c.requires l from to in
     record { source = inside.source; target = rw c.loop-lane.auto.ts inside.target }
 
-pub loop-lane-init : goal.loop-lane-init
-loop-lane-init g c = lanes_none _ _ _ _ _
-
 pub loop-lane-preserved : goal.loop-lane-preserved
 loop-lane-preserved g c =
     let s = g.S.Scalar in
@@ -35,6 +31,3 @@ loop-lane-preserved g c =
     let to = c.start.ensures (length old) c.requires.table first l in
     spread_more s.means s.ops (s.means c.args.a.0) c.args.x.now p ps t c.args.start old c.requires
     lane c.start-from.result c.start.result c.loop-lane.ts c.gain_part.new.ys l c.loop-lane.auto.ts from to c.loop-lane.invariant c.gain_part.ensures
-
-pub returns : goal.returns
-returns g c = lanes_all _ _ _ _ _ _ _ c.loop-lane-test.false c.loop-lane.invariant

@@ -1,8 +1,0 @@
-use Rattle.std.proofs.Common.{◌≡◌}
-use Rattle.shape.proofs.Parts.{Filled}
-use Rattle.product.proofs.sums.clear_run.Given as goal
-
-abbrev pub invariant-loop-i : goal.invariant-loop-i
-invariant-loop-i g l =
-    let s = g.S.Scalar in
-    Filled (λ k v. s.means v ≡ s.ops.zero) l.initial.y l.y l.i
