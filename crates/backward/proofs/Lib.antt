@@ -3,4 +3,3 @@ pub mod Moves
 pub mod ListMoves
 pub mod TableMoves
 pub mod Carried
-pub mod Passed

@@ -1,7 +1,7 @@
 -- What the calls on several columns of a table leave in each lane, by meanings. Assumes nothing.
-use Rattle.std.proofs.Common.{◌≡◌, ℕ, ◌+◌, ◌-◌, ◌<◌, ◌≤◌, cond, ◌&&◌, ltb, leb, List, map, length, get_or, take, drop, sym, refl, ap, ◌∙◌, subst, inl, inr, arith}
+use Rattle.std.proofs.Common.{◌≡◌, ℕ, ◌+◌, ◌-◌, ◌<◌, ◌≤◌, cond, ◌&&◌, ltb, leb, List, length, take, drop, sym, refl, ap, ◌∙◌, subst, inl, inr, arith}
 use Rattle.std.proofs.lemmas.Bool.{cases_lt, le-ltb, lt-leb, and_left, and_right, cond-false}
-use Rattle.std.proofs.lemmas.List.{drop-map, get_or-drop, take_rest, length-drop}
+use Rattle.std.proofs.lemmas.List.{take_rest, length-drop}
 use Rattle.scalar.specs.Ops.{Ops}
 use Rattle.scalar.specs.Sums.{at}
 use Rattle.shape.specs.Shapes.{cell, In, Fits, Lawful}
@@ -13,11 +13,11 @@ use Rattle.product.specs.Rows.{spread}
 use Rattle.product.specs.Results.{row_of, broadcast, GerCols, cell_gained}
 use Rattle.product.specs.Tests.{ger_cols_tests}
 use Rattle.differences.specs.Rows.{multiplied, transposed}
-use Rattle.differences.specs.MulCols.{Multiplied}
 use Rattle.differences.specs.Transposes.{transpose_tests, Transposed, cell_totalled}
 use Rattle.steps.specs.Actions.{total}
 use Rattle.state.specs.Memory.{vector_of}
-use Rattle.state.proofs.Lanes.{lane_own, cell_written, cell_kept}
+use Rattle.state.proofs.Lanes.{own_lane, cell_written, cell_kept}
+use Rattle.forward.proofs.Columns.{at_rest, columns_multiplied}
 use Rattle.backward.proofs.Accepts.{ger_accepted, transpose_accepted}
 use Rattle.backward.proofs.Moves.{rows}
 
@@ -35,20 +35,6 @@ module _ {S M : Type 0} (means : S → M) (o : Ops M) (t : TableShape) (old cur 
     where
       outside : (InBand c n b j i → ⊥) → at means o cur (cell t b j i) ≡ new b j i
       outside out = cell_kept means o t old cur fits same (InBand c n) (meant means new) b j i done w out ∙ sym (else b j i out)
-
-  -- the first k columns times a matrix
-  pub multiplied_lane : (k : ℕ) (m : ℕ → ℕ → M) → Multiplied means o t k m old cur
-      → (b j i : ℕ) → In t b j i → at means o cur (cell t b j i) ≡ multiplied o (row_of means o t old b i) k m j
-  multiplied_lane k m done = banded 0 k (λ b j i. multiplied o (row_of means o t old b i) k m j)
-      (λ b j i out. elim (cases_lt j k) [
-        | inl l ↦ absurd (out (omega arith, omega arith))
-        | inr above ↦ cond-false (ltb j k) _ _ (le-ltb j k above)
-      ]) done
-
-  -- the coefficients are the numbers from the third on
-  coefficient : (numbers : List S) (l : ℕ) → at means o (take (length numbers - 2) (drop 2 numbers)) l ≡ at means o numbers (2 + l)
-  coefficient numbers l =
-      ap (λ z. at means o z l) (take_rest numbers 2) ∙ ap (λ z. get_or z l o.zero) (sym (drop-map means 2 numbers)) ∙ get_or-drop 2 (map means numbers) l o.zero
 
   spread_else : (e : ℕ → M) (start n : ℕ) (a : M) (x : ℕ → M) (p : M) (b j i : ℕ) → (InBand start n b j i → ⊥) → spread o e start n a x p j ≡ e j
   spread_else e start n a x p b j i out = cond-false (leb start j && ltb j (start + n)) _ _ (elim (cases_lt j start) [
@@ -77,10 +63,10 @@ module _ {S M : Type 0} (means : S → M) (o : Ops M) (t : TableShape) (old cur 
       let e = row_of means o t old b i in
       let p = rows means o V ps b i in
       let test = leb start j && ltb j (start + n) in
-      let own : broadcast means o V ps t.lanes b i ≡ p = ap (λ z. at means o ps (cell V.of z 0 i)) (lane_own b t.lanes w.lane) in
+      let own : broadcast means o V ps t.lanes b i ≡ p = ap (λ z. at means o ps (cell V.of z 0 i)) (own_lane b t.lanes t.lanes refl w.lane) in
       banded start n (cell_gained means o a xs V ps t start n old) (λ b j i out. spread_else (row_of means o t old b i) start n a (λ l. at means o xs l) (broadcast means o V ps t.lanes b i) b j i out) done b j i w
       ∙ ap (λ z. spread o e start n a (λ l. at means o xs l) z j) own
-      ∙ ap (λ z. cond test (o.plus (e j) (o.times (o.times a z) p)) (e j)) (coefficient numbers (j - start))
+      ∙ ap (λ z. cond test (o.plus (e j) (o.times (o.times a z) p)) (e j)) (at_rest means o numbers 2 (j - start))
 
   -- the update's transpose, and the sum of its columns in the vector d, after a call that is not refused
   pub record Summed (k : ℕ) (ds' : List S) : Type 0 where
@@ -96,8 +82,8 @@ module _ {S M : Type 0} (means : S → M) (o : Ops M) (t : TableShape) (old cur 
       let called = subst (λ (z : Column). number ≡ first_of (transpose_tests t (length old) k z (length ds) work)) is verdict in
       let done = subst (λ (z : Column). Transposed means o t k z old cur ds ds') is (accepted (called ∙ passes)) in
       record {
-        columns = multiplied_lane (k + 3) (transposed o k) done.columns;
+        columns = columns_multiplied means o t (k + 3) (transposed o k) old cur fits same done.columns;
         sums = λ b i l h.
             cell_written means o V.of ds ds' law.fits kept (InColumn 0) (cell_totalled means o t old (k + 3) V) b 0 i done.sum_in_d (record { lane = l; col = omega arith; row = h }) refl
-            ∙ ap (λ z. total o (row_of means o t old z i) (k + 3)) (lane_own b t.lanes l);
+            ∙ ap (λ z. total o (row_of means o t old z i) (k + 3)) (own_lane b t.lanes t.lanes refl l);
       }

@@ -7,10 +7,6 @@ use Rattle.steps.specs.Actions.{back_by}
 use Rattle.steps.specs.declared.kind.Kind.{Kind}
 use Rattle.state.specs.Memory.{Memory, lane_of}
 
--- the weights E, p and q, each in its slice
-abbrev pub weights : {S : Type 0} → List S → List S → List S → Memory S
-weights e p q = record { table = e; first = p; second = q }
-
 -- each lane of z is what the kind with the numbers ms and the list ks makes of that lane of w
 abbrev pub BackBy : {S M : Type 0} → (S → M) → Ops M → TableShape → Kind → List M → List ℕ → Memory S → Memory S → Type 0
 BackBy means o t k ms ks w z = (b : ℕ) → b < t.lanes → Alike t.rows t.cols (lane_of means o t b z) (back_by o k ms ks (lane_of means o t b w))

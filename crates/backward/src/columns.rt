@@ -1,10 +1,10 @@
 //! The kinds that name one column of the table E, on the way back.
 ghost use Rattle.std.specs.Prelude.{◌≡◌, ℕ, ◌<◌, List, [], length};
 ghost use Rattle.scalar.specs.Ops.{Ops};
-ghost use Rattle.shape.specs.Shapes.{Fits, Lawful};
-ghost use Rattle.state.specs.Memory.{vector_of};
+ghost use Rattle.shape.specs.Shapes.{Fits};
+ghost use Rattle.state.specs.Memory.{memory, vector_of};
 ghost use Rattle.steps.specs.declared.kind.Kind.TheVariants.{AddCol, SetCol};
-ghost use Rattle.backward.specs.Backs.{weights, BackBy};
+ghost use Rattle.backward.specs.Backs.{BackBy};
 
 use scalar::Scalar;
 use shape::{Column, TableShape};
@@ -13,9 +13,9 @@ use vector::{add_assign, fill};
 /// Column j of E gains p.
 pub(crate) fn add_column_back<S: Scalar>(t: TableShape, es: &mut [S], ps: &[S], j: usize)
     requires table { Fits t (length es.old) }
-    requires first { Lawful (vector_of t) (length ps.now) }
+    requires first { Fits (vector_of t).of (length ps.now) }
     requires within { j < t.cols }
-    ensures { (qs : List S) → BackBy S.means S.ops t (AddCol j) [] [] (weights es.old ps.now qs) (weights es.new ps.now qs) }
+    ensures { (qs : List S) → BackBy S.means S.ops t (AddCol j) [] [] (memory es.old ps.now qs) (memory es.new ps.now qs) }
 {
     let v = Column::vector(t.rows, t.lanes);
     let _ = add_assign(v, ps, t.column(j), es);
@@ -24,9 +24,9 @@ pub(crate) fn add_column_back<S: Scalar>(t: TableShape, es: &mut [S], ps: &[S], 
 /// p gains column j of E, which becomes zero.
 pub(crate) fn set_column_back<S: Scalar>(t: TableShape, es: &mut [S], ps: &mut [S], j: usize)
     requires table { Fits t (length es.old) }
-    requires first { Lawful (vector_of t) (length ps.old) }
+    requires first { Fits (vector_of t).of (length ps.old) }
     requires within { j < t.cols }
-    ensures { (qs : List S) → BackBy S.means S.ops t (SetCol j) [] [] (weights es.old ps.old qs) (weights es.new ps.new qs) }
+    ensures { (qs : List S) → BackBy S.means S.ops t (SetCol j) [] [] (memory es.old ps.old qs) (memory es.new ps.new qs) }
 {
     let v = Column::vector(t.rows, t.lanes);
     let column = t.column(j);

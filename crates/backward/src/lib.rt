@@ -4,10 +4,8 @@
 pub mod check;
 pub mod columns;
 pub mod lists;
-pub mod multiple;
 pub mod step;
 pub mod tables;
 pub mod vectors;
 
-pub use multiple::gain;
 pub use step::step_back;

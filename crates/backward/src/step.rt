@@ -1,15 +1,14 @@
 //! A step of a script, back on lent weights.
-ghost use Rattle.std.specs.Prelude.{◌≡◌, List, ◌++◌, map, length, ◌≢◌};
-ghost use Rattle.scalar.specs.Ops.{Ops};
+ghost use Rattle.std.specs.Prelude.{◌≡◌, ◌++◌, map, length, OnErr};
 ghost use Rattle.shape.specs.Shapes.{Fits};
 ghost use Rattle.shape.specs.Refusals.{answer, first_of};
 ghost use Rattle.steps.specs.Steps.{step_tests, fault};
 ghost use Rattle.steps.specs.Lanes.{StepBack};
-ghost use Rattle.state.specs.Memory.{Memory, vector_of, lane_of, step_of};
+ghost use Rattle.state.specs.Memory.{held, SameLoan, lengths, vector_of, lane_of, step_of};
 ghost use Rattle.forward.specs.Forward.{Allowed};
 ghost use Rattle.forward.specs.Tests.{Roomy};
-ghost use Rattle.backward.specs.Backs.{weights, BackBy};
-ghost use Rattle.backward.specs.Tests.{weights_tests, Lent};
+ghost use Rattle.backward.specs.Backs.{BackBy};
+ghost use Rattle.backward.specs.Tests.{weights_tests};
 
 use crate::check::check_weights;
 use crate::columns::{add_column_back, set_column_back};
@@ -19,89 +18,60 @@ use crate::vectors::{axpy_back, copy_back, scale_back};
 use forward::check::check_step;
 use scalar::Scalar;
 use shape::{Refusal, TableShape};
-use state::StepRecord;
+use state::{Parts, Script, StepRecord};
 use steps::kind::Kind;
 
 /// A kind with its numbers and its list.
 fn back_kind<S: Scalar>(
     t: TableShape,
-    es: &mut [S],
-    ps: &mut [S],
-    qs: &mut [S],
+    weights: &mut Parts<&mut [S]>,
     ws: &mut [S],
     kind: Kind,
     numbers: &[S],
     list: &[usize],
     work: &mut [S],
 )
-    requires room { Roomy t (length es.old) (length ps.old) (length qs.old) (length work.old) }
+    requires room { Roomy t (lengths (held weights.old)) (length work.old) }
     requires sum { Fits (vector_of t).of (length ws.old) }
     requires allowed { Allowed t.rows t.cols kind (length numbers.now) list.now }
-    ensures { BackBy S.means S.ops t kind (map S.means numbers.now) list.now (weights es.old ps.old qs.old) (weights es.new ps.new qs.new) }
+    ensures lent { SameLoan weights.old weights.new }
+    ensures back { BackBy S.means S.ops t kind (map S.means numbers.now) list.now (held weights.old) (held weights.new) }
 {
+    let table = &mut *weights.table;
+    let first = &mut *weights.first;
+    let second = &mut *weights.second;
     match kind {
-        Kind::Update { order } => update_back(t, es, ps, order, ws, work),
-        Kind::Cols { count } => multiply_back(t, es, count, numbers, work),
-        Kind::SumCol { start, end } => sum_columns_back(t, es, ps, start, end, numbers),
-        Kind::AddCol { column } => add_column_back(t, es, ps, column),
-        Kind::SetCol { column } => set_column_back(t, es, ps, column),
-        Kind::Axpy => axpy_back(t, ps, qs, numbers),
-        Kind::Copy => copy_back(t, ps, qs),
-        Kind::Scale => scale_back(t, ps, numbers),
-        Kind::Gather => gather_back(t, ps, qs, list),
-        Kind::Scatter => scatter_back(t, ps, qs, list),
+        Kind::Update { order } => update_back(t, table, first, order, ws, work),
+        Kind::Cols { count } => multiply_back(t, table, count, numbers, work),
+        Kind::SumCol { start, end } => sum_columns_back(t, table, first, start, end, numbers),
+        Kind::AddCol { column } => add_column_back(t, table, first, column),
+        Kind::SetCol { column } => set_column_back(t, table, first, column),
+        Kind::Axpy => axpy_back(t, first, second, numbers),
+        Kind::Copy => copy_back(t, first, second),
+        Kind::Scale => scale_back(t, first, numbers),
+        Kind::Gather => gather_back(t, first, second, list),
+        Kind::Scatter => scatter_back(t, first, second, list),
     }
 }
 
 /// An accepted step on weights that hold their shapes. A kind that reads no list may name any place.
 fn back_accepted<S: Scalar>(
     t: TableShape,
-    es: &mut [S],
-    ps: &mut [S],
-    qs: &mut [S],
+    weights: &mut Parts<&mut [S]>,
     ws: &mut [S],
     x: StepRecord,
-    numbers: &[S],
-    indices: &[usize],
+    script: Script<S>,
     work: &mut [S],
 )
-    requires room { Roomy t (length es.old) (length ps.old) (length qs.old) (length work.old) }
+    requires room { Roomy t (lengths (held weights.old)) (length work.old) }
     requires sum { Fits (vector_of t).of (length ws.old) }
-    requires passed { fault t.rows t.cols (step_of S.means x numbers.now indices.now) ≡ 0 }
-    ensures { StepBack S.ops t.rows t.cols t.lanes (lane_of S.means S.ops t) (step_of S.means x numbers.now indices.now) 0 (weights es.old ps.old qs.old) (weights es.new ps.new qs.new) }
+    requires passed { fault t.rows t.cols (step_of S.means x script) ≡ 0 }
+    ensures lent { SameLoan weights.old weights.new }
+    ensures carried { StepBack S.ops t.rows t.cols t.lanes (lane_of S.means S.ops t) (step_of S.means x script.entry) 0 (held weights.old) (held weights.new) }
 {
-    let from = x.numbers_at;
-    let count = x.number_count;
-    let given = &numbers[from..from + count];
-    if x.kind.reads_list() {
-        let place = x.list_at;
-        let rows = x.list_count;
-        let list = &indices[place..place + rows];
-        back_kind(t, es, ps, qs, ws, x.kind, given, list, work);
-    } else {
-        back_kind(t, es, ps, qs, ws, x.kind, given, &indices[..0], work);
-    }
-}
-
-/// The tests of `step_back`, and what acceptance and refusal tell.
-fn check_back<S: Scalar>(
-    t: TableShape,
-    table: usize,
-    first: usize,
-    second: usize,
-    sum: usize,
-    work: usize,
-    x: StepRecord,
-    numbers: &[S],
-    indices: &[usize],
-) -> Result<(), Refusal>
-    ensures verdict { answer result ≡ first_of (weights_tests t table first second sum work ++ step_tests t.rows t.cols (step_of S.means x numbers.now indices.now)) }
-    ensures lent { answer result ≡ 0 → Lent t table first second sum work }
-    ensures passed { answer result ≡ 0 → fault t.rows t.cols (step_of S.means x numbers.now indices.now) ≡ 0 }
-    ensures kept { (answer result ≢ 0) → first_of (weights_tests t table first second sum work) ≡ 0 → (w : Memory S) → StepBack S.ops t.rows t.cols t.lanes (lane_of S.means S.ops t) (step_of S.means x numbers.now indices.now) (answer result) w w }
-{
-    check_weights(t, table, first, second, sum, work)?;
-    check_step(t.rows, t.cols, x, numbers, indices)
+    let numbers = script.numbers_of(x).unwrap_or(&[]);
+    let list = script.list_of(x).unwrap_or(&[]);
+    back_kind(t, weights, ws, x.kind, numbers, list, work);
 }
 
 /// One step of a script on the weights E, p and q of a table of shape t and its vectors, the way
@@ -114,30 +84,19 @@ fn check_back<S: Scalar>(
 /// back, and w and the work memory in any state.
 pub fn step_back<S: Scalar>(
     t: TableShape,
-    es: &mut [S],
-    ps: &mut [S],
-    qs: &mut [S],
+    weights: &mut Parts<&mut [S]>,
     ws: &mut [S],
     x: StepRecord,
-    numbers: &[S],
-    indices: &[usize],
+    script: Script<S>,
     work: &mut [S],
 ) -> Result<(), Refusal>
-    ensures verdict { answer result ≡ first_of (weights_tests t (length es.old) (length ps.old) (length qs.old) (length ws.old) (length work.old) ++ step_tests t.rows t.cols (step_of S.means x numbers.now indices.now)) }
-    ensures taken { first_of (weights_tests t (length es.old) (length ps.old) (length qs.old) (length ws.old) (length work.old)) ≡ 0 → StepBack S.ops t.rows t.cols t.lanes (lane_of S.means S.ops t) (step_of S.means x numbers.now indices.now) (answer result) (weights es.old ps.old qs.old) (weights es.new ps.new qs.new) }
-    ensures refused { (answer result ≢ 0) → (es.new ≡ es.old) × (ps.new ≡ ps.old) × (qs.new ≡ qs.old) × (ws.new ≡ ws.old) × (work.new ≡ work.old) }
+    ensures lent { SameLoan weights.old weights.new }
+    ensures verdict { answer result ≡ first_of (weights_tests t (lengths (held weights.old)) (length ws.old) (length work.old) ++ step_tests t.rows t.cols (step_of S.means x script.entry)) }
+    ensures taken { first_of (weights_tests t (lengths (held weights.old)) (length ws.old) (length work.old)) ≡ 0 → StepBack S.ops t.rows t.cols t.lanes (lane_of S.means S.ops t) (step_of S.means x script.entry) (answer result) (held weights.old) (held weights.new) }
+    ensures refused { OnErr result ((held weights.new ≡ held weights.old) × (ws.new ≡ ws.old) × (work.new ≡ work.old)) }
 {
-    check_back(
-        t,
-        es.len(),
-        ps.len(),
-        qs.len(),
-        ws.len(),
-        work.len(),
-        x,
-        numbers,
-        indices,
-    )?;
-    back_accepted(t, es, ps, qs, ws, x, numbers, indices, work);
+    check_weights(t, weights.lens(), ws.len(), work.len())?;
+    check_step(t.rows, t.cols, x, script)?;
+    back_accepted(t, weights, ws, x, script, work);
     Ok(())
 }

@@ -1,10 +1,10 @@
 //! The kinds that work on several columns of the table E, on the way back.
 ghost use Rattle.std.specs.Prelude.{◌≡◌, ℕ, ◌+◌, ◌-◌, ◌*◌, ◌<◌, ◌≤◌, List, [], map, length};
 ghost use Rattle.scalar.specs.Ops.{Ops};
-ghost use Rattle.shape.specs.Shapes.{Fits, Lawful};
-ghost use Rattle.state.specs.Memory.{vector_of};
+ghost use Rattle.shape.specs.Shapes.{Fits};
+ghost use Rattle.state.specs.Memory.{memory, vector_of};
 ghost use Rattle.steps.specs.declared.kind.Kind.TheVariants.{Update, Cols, SumCol};
-ghost use Rattle.backward.specs.Backs.{weights, BackBy};
+ghost use Rattle.backward.specs.Backs.{BackBy};
 
 use differences::{mul_cols_by_transpose, update_backward_diff_transpose};
 use product::ger_cols;
@@ -23,12 +23,12 @@ pub(crate) fn sum_columns_back<S: Scalar>(
     numbers: &[S],
 )
     requires table { Fits t (length es.old) }
-    requires first { Lawful (vector_of t) (length ps.old) }
+    requires first { Fits (vector_of t).of (length ps.old) }
     requires within { end ≤ t.cols }
     requires ordered { start ≤ end }
     requires few { end - start ≤ 8 }
     requires numbers { length numbers.now ≡ 2 + (end - start) }
-    ensures { (qs : List S) → BackBy S.means S.ops t (SumCol start end) (map S.means numbers.now) [] (weights es.old ps.old qs) (weights es.new ps.new qs) }
+    ensures { (qs : List S) → BackBy S.means S.ops t (SumCol start end) (map S.means numbers.now) [] (memory es.old ps.old qs) (memory es.new ps.new qs) }
 {
     let v = Column::vector(t.rows, t.lanes);
     let _ = ger_cols(Scale(numbers[0]), &numbers[2..], v, ps, t, es, start, end);
@@ -48,7 +48,7 @@ pub(crate) fn multiply_back<S: Scalar>(
     requires few { k ≤ 8 }
     requires numbers { length numbers.now ≡ k * k }
     requires room { 8 ≤ length work.old }
-    ensures { (ps qs : List S) → BackBy S.means S.ops t (Cols k) (map S.means numbers.now) [] (weights es.old ps qs) (weights es.new ps qs) }
+    ensures { (ps qs : List S) → BackBy S.means S.ops t (Cols k) (map S.means numbers.now) [] (memory es.old ps qs) (memory es.new ps qs) }
 {
     let _ = mul_cols_by_transpose(t, es, k, numbers, work);
 }
@@ -64,12 +64,12 @@ pub(crate) fn update_back<S: Scalar>(
     work: &mut [S],
 )
     requires table { Fits t (length es.old) }
-    requires first { Lawful (vector_of t) (length ps.old) }
-    requires sum { Lawful (vector_of t) (length ws.old) }
+    requires first { Fits (vector_of t).of (length ps.old) }
+    requires sum { Fits (vector_of t).of (length ws.old) }
     requires within { order + 2 < t.cols }
     requires few { order ≤ 5 }
     requires room { 8 ≤ length work.old }
-    ensures { (qs : List S) → BackBy S.means S.ops t (Update order) [] [] (weights es.old ps.old qs) (weights es.new ps.new qs) }
+    ensures { (qs : List S) → BackBy S.means S.ops t (Update order) [] [] (memory es.old ps.old qs) (memory es.new ps.new qs) }
 {
     let v = Column::vector(t.rows, t.lanes);
     let _ = update_backward_diff_transpose(t, es, order, v, ws, work);

@@ -1,21 +1,20 @@
 //! The kinds that touch the vectors p and q alone, on the way back.
 ghost use Rattle.std.specs.Prelude.{◌≡◌, ℕ, List, [], map, length};
 ghost use Rattle.scalar.specs.Ops.{Ops};
-ghost use Rattle.shape.specs.Shapes.{Lawful};
-ghost use Rattle.state.specs.Memory.{vector_of};
+ghost use Rattle.shape.specs.Shapes.{Fits};
+ghost use Rattle.state.specs.Memory.{memory, vector_of};
 ghost use Rattle.steps.specs.declared.kind.Kind.TheVariants.{Copy as Copied, Scale as Scaled, Axpy};
-ghost use Rattle.backward.specs.Backs.{weights, BackBy};
+ghost use Rattle.backward.specs.Backs.{BackBy};
 
-use crate::multiple::gain;
 use scalar::{Scalar, Scale};
 use shape::{Column, TableShape};
-use vector::{add_assign, fill, mul_assign};
+use vector::{add_assign, fill, gain, mul_assign};
 
 /// p gains q, which becomes zero. Lawful operands are not refused, so the answers tell nothing.
 pub(crate) fn copy_back<S: Scalar>(t: TableShape, ps: &mut [S], qs: &mut [S])
-    requires first { Lawful (vector_of t) (length ps.old) }
-    requires second { Lawful (vector_of t) (length qs.old) }
-    ensures { (es : List S) → BackBy S.means S.ops t Copied [] [] (weights es ps.old qs.old) (weights es ps.new qs.new) }
+    requires first { Fits (vector_of t).of (length ps.old) }
+    requires second { Fits (vector_of t).of (length qs.old) }
+    ensures { (es : List S) → BackBy S.means S.ops t Copied [] [] (memory es ps.old qs.old) (memory es ps.new qs.new) }
 {
     let v = Column::vector(t.rows, t.lanes);
     let _ = add_assign(v, qs, v, ps);
@@ -24,9 +23,9 @@ pub(crate) fn copy_back<S: Scalar>(t: TableShape, ps: &mut [S], qs: &mut [S])
 
 /// p becomes p·a.
 pub(crate) fn scale_back<S: Scalar>(t: TableShape, ps: &mut [S], numbers: &[S])
-    requires first { Lawful (vector_of t) (length ps.old) }
+    requires first { Fits (vector_of t).of (length ps.old) }
     requires numbers { length numbers.now ≡ 1 }
-    ensures { (es qs : List S) → BackBy S.means S.ops t Scaled (map S.means numbers.now) [] (weights es ps.old qs) (weights es ps.new qs) }
+    ensures { (es qs : List S) → BackBy S.means S.ops t Scaled (map S.means numbers.now) [] (memory es ps.old qs) (memory es ps.new qs) }
 {
     let v = Column::vector(t.rows, t.lanes);
     let _ = mul_assign(Scale(numbers[0]), v, ps);
@@ -34,10 +33,10 @@ pub(crate) fn scale_back<S: Scalar>(t: TableShape, ps: &mut [S], numbers: &[S])
 
 /// q gains a·p, then p becomes p·b.
 pub(crate) fn axpy_back<S: Scalar>(t: TableShape, ps: &mut [S], qs: &mut [S], numbers: &[S])
-    requires first { Lawful (vector_of t) (length ps.old) }
-    requires second { Lawful (vector_of t) (length qs.old) }
+    requires first { Fits (vector_of t).of (length ps.old) }
+    requires second { Fits (vector_of t).of (length qs.old) }
     requires numbers { length numbers.now ≡ 2 }
-    ensures { (es : List S) → BackBy S.means S.ops t Axpy (map S.means numbers.now) [] (weights es ps.old qs.old) (weights es ps.new qs.new) }
+    ensures { (es : List S) → BackBy S.means S.ops t Axpy (map S.means numbers.now) [] (memory es ps.old qs.old) (memory es ps.new qs.new) }
 {
     let v = Column::vector(t.rows, t.lanes);
     let _ = gain(Scale(numbers[0]), v, ps, v, qs);

@@ -16,7 +16,8 @@ use Rattle.product.proofs.RowLaws.{summed_cong}
 use Rattle.differences.specs.Rows.{multiplied, updated}
 use Rattle.differences.specs.MulCols.{Multiplied}
 use Rattle.differences.specs.Updates.{cell_updated, Updated}
-use Rattle.forward.proofs.Families.{Written, written, own_lane, columns_meant}
+use Rattle.state.proofs.Lanes.{own_lane}
+use Rattle.forward.proofs.Families.{Written, written, columns_meant}
 
 module _ {S M : Type 0} (means : S → M) (o : Ops M) where
   -- the numbers from place n on, lent

@@ -4,7 +4,6 @@ use Rattle.std.proofs.lemmas.Bool.{cases_eq, cases_lt}
 use Rattle.scalar.specs.Ops.{Ops}
 use Rattle.scalar.specs.Sums.{at}
 use Rattle.shape.specs.Shapes.{cell, column_of, In, Fits, Lawful}
-use Rattle.shape.specs.Lanes.{lane_for}
 use Rattle.shape.specs.Refusals.{first_of}
 use Rattle.shape.specs.Operands.{column_tests, pair_tests}
 use Rattle.shape.specs.Changes.{Changed, InColumn, InBand, meant}
@@ -14,17 +13,9 @@ use Rattle.shape.proofs.Blocks.{cell_fits}
 use Rattle.elementwise.specs.Entrywise.{Entrywise, Revised}
 use Rattle.index.specs.Transposes.{put}
 use Rattle.steps.proofs.Lists.{put_same, put_other}
-use Rattle.state.specs.Memory.{vector_of}
-use Rattle.state.proofs.Lanes.{lane_own, cell_written, cell_kept, cell_made}
-use Rattle.forward.proofs.Passes.{column_passes, pair_passes}
-
--- a lane of a source with as many lanes reads its own
-pub own_lane : (b s n : ℕ) → s ≡ n → b < n → lane_for b s n ≡ b
-own_lane b s n e h = ap (λ z. lane_for b z n) e ∙ lane_own b n h
-
--- a vector that fits is lawful
-pub vector_in : (t : TableShape) (len : ℕ) → Fits (vector_of t).of len → Lawful (vector_of t) len
-vector_in t len f = record { fits = f; within = omega arith }
+use Rattle.state.proofs.Lanes.{own_lane, cell_written, cell_kept, cell_made}
+use Rattle.shape.proofs.Passes.{pair_passes}
+use Rattle.forward.proofs.Passes.{column_passes}
 
 module _ {S M : Type 0} (means : S → M) (o : Ops M) where
   -- every row of column y means what `new` says of its lane, and every other column what it meant

@@ -2,5 +2,4 @@ pub mod Passes
 pub mod Families
 pub mod Routes
 pub mod Columns
-pub mod Records
 pub mod Taken

@@ -14,7 +14,8 @@ use Rattle.index.specs.declared.route.Route.{Route}
 use Rattle.index.specs.declared.route.Route.TheVariants.{Gather, Scatter}
 use Rattle.index.proofs.Tested.{inside_of}
 use Rattle.forward.proofs.Passes.{gather_passes, scatter_passes}
-use Rattle.forward.proofs.Families.{Written, written, own_lane}
+use Rattle.state.proofs.Lanes.{own_lane}
+use Rattle.forward.proofs.Families.{Written, written}
 
 cond_means : {S M : Type 0} (means : S → M) (t : Bool) (x y : S) (x' y' : M) → means x ≡ x' → means y ≡ y' → means (cond t x y) ≡ cond t x' y'
 cond_means means true x y x' y' e h = e

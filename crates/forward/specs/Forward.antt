@@ -9,9 +9,6 @@ use Rattle.steps.specs.Actions.{forward_by}
 use Rattle.steps.specs.declared.kind.Kind.{Kind}
 use Rattle.state.specs.Memory.{Memory, lane_of}
 
-abbrev pub memory : {S : Type 0} → List S → List S → List S → Memory S
-memory ds us vs = record { table = ds; first = us; second = vs }
-
 -- from the memory s to the memory m, each lane became what the kind makes of it with the numbers ms and the list ks
 abbrev pub Forward : {S M : Type 0} → (S → M) → Ops M → TableShape → Kind → List M → List ℕ → Memory S → Memory S → Type 0
 Forward means o t kind ms ks s m = (b : ℕ) → b < t.lanes → Alike t.rows t.cols (lane_of means o t b m) (forward_by o kind ms ks (lane_of means o t b s))

@@ -2,8 +2,8 @@
 //! the calls do not refuse, and their answers tell nothing.
 ghost use Rattle.std.specs.Prelude.{◌≡◌, ◌+◌, ◌*◌, ◌<◌, ◌≤◌, List, [], ◌∷◌, map, length};
 ghost use Rattle.shape.specs.Shapes.{Fits};
-ghost use Rattle.state.specs.Memory.{vector_of};
-ghost use Rattle.forward.specs.Forward.{memory, Forward};
+ghost use Rattle.state.specs.Memory.{memory, vector_of};
+ghost use Rattle.forward.specs.Forward.{Forward};
 ghost use Rattle.steps.specs.declared.kind.Kind.TheVariants.{Update, Cols, SetCol};
 
 use differences::{mul_cols_by, update_backward_diff};

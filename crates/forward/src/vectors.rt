@@ -3,8 +3,8 @@
 ghost use Rattle.std.specs.Prelude.{◌≡◌, ◌+◌, ◌-◌, ◌<◌, ◌≤◌, Bool, false, List, [], ◌∷◌, map, length};
 ghost use Rattle.shape.specs.Shapes.{Fits};
 ghost use Rattle.index.specs.Indices.{outside};
-ghost use Rattle.state.specs.Memory.{vector_of};
-ghost use Rattle.forward.specs.Forward.{memory, Forward};
+ghost use Rattle.state.specs.Memory.{memory, vector_of};
+ghost use Rattle.forward.specs.Forward.{Forward};
 ghost use Rattle.steps.specs.declared.kind.Kind.TheVariants.{SumCol, AddCol, Axpy, Copy as Same, Scale as Times, Gather, Scatter};
 
 use index::{gather, scatter};

@@ -1,9 +1,8 @@
 -- From what a call left in a memory to what it made of a lane. Assumes nothing.
 use mathlib.Core.Path.{◌≡◌, sym, ap₂, ◌∙◌}
 use mathlib.Core.List.{List, [], ◌∷◌}
-use Prim.Native.Nat.{ℕ, ◌*◌, ◌<◌}
+use Prim.Native.Nat.{ℕ, ◌<◌}
 use native.Mathlib.Omega.{arith}
-use native.Mathlib.Nat.{mul-div_cancel}
 use lib.ListN.{length, get_or}
 use Rattle.scalar.specs.Ops.{Ops}
 use Rattle.scalar.specs.Sums.{at}
@@ -13,11 +12,12 @@ use Rattle.shape.specs.Lanes.{lane_for}
 use Rattle.shape.specs.Changes.{Changed, meant}
 use Rattle.shape.specs.declared.operand.TableShape.{TableShape}
 use Rattle.shape.proofs.Blocks.{cell_fits}
+use Rattle.shape.proofs.Passes as shape
 use Rattle.state.specs.Memory.{vector_of}
 
--- equal counts: a lane reads its own
-pub lane_own : (b n : ℕ) → b < n → lane_for b n n ≡ b
-lane_own b n h = mul-div_cancel b (omega arith)
+-- a lane of a source with as many lanes reads its own
+pub own_lane : (b s n : ℕ) → s ≡ n → b < n → lane_for b s n ≡ b
+own_lane b s n e h = shape.own_lane b s n e (omega (arith, h))
 
 module _ {S M : Type 0} (means : S → M) (o : Ops M) (t : TableShape) (old cur : List S) (fits : Fits t (length old)) (same : length cur ≡ length old) where
   -- a cell that was written means what was said of it
@@ -42,9 +42,6 @@ module _ {S M : Type 0} (means : S → M) (o : Ops M) (t : TableShape) (old cur 
       at_get means o cur (cell t b j i) x (omega arith) ∙ e x
       ∙ ap₂ F (sym (at_get means o (x ∷ xs) k x h)) (sym (at_get means o old (cell t b j i) x f))
 
--- a vector's shape is lawful where the table's is
-pub vector_fits : (t : TableShape) (len l : ℕ) → Fits t len → l ≡ t.rows * 1 * t.lanes → Fits (vector_of t).of l
-vector_fits t len l f e = record { some = f.some; few_rows = f.few_rows; few_cols = omega arith; few_lanes = f.few_lanes; size = e }
-
-pub vector_lawful : (t : TableShape) (len l : ℕ) → Fits t len → l ≡ t.rows * 1 * t.lanes → Lawful (vector_of t) l
-vector_lawful t len l f e = record { fits = vector_fits t len l f e; within = omega arith }
+-- a vector that fits is lawful
+pub vector_in : (t : TableShape) (len : ℕ) → Fits (vector_of t).of len → Lawful (vector_of t) len
+vector_in t len f = record { fits = f; within = omega arith }

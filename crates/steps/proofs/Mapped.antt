@@ -6,6 +6,10 @@ use Rattle.steps.specs.Steps.{Step, given, miscounted}
 use Rattle.steps.specs.Actions.{nth}
 use Rattle.steps.specs.Relations.{Keeps, Matched, map_given, mapped}
 
+pub counts_mapped : {M N : Type 0} (f : M → N) (ns : Option (List M)) (n : ℕ) → miscounted n ns ≡ miscounted n (map_given f ns)
+counts_mapped f None n = refl
+counts_mapped f (Some ms) n = ap (λ k. not (eqb k n)) (sym (length-map ms f))
+
 module _ {M N : Type 0} {o : Ops M} {p : Ops N} {R : M → N → Type 0} (σ : Keeps o p R) (f : M → N) where
   -- a and f a are related, and zero together
   abbrev pub Fair : M → Type 0
@@ -24,15 +28,11 @@ module _ {M N : Type 0} {o : Ops M} {p : Ops N} {R : M → N → Type 0} (σ : K
   fair_given None l h = (σ.zero, σ.test)
   fair_given (Some ms) l h = fair_nth ms l h
 
-  counts_mapped : (ns : Option (List M)) (n : ℕ) → miscounted n ns ≡ miscounted n (map_given f ns)
-  counts_mapped None n = refl
-  counts_mapped (Some ms) n = ap (λ k. not (eqb k n)) (sym (length-map ms f))
-
   pub mapped_matched : (x : Step M) → AllFair (given x.numbers) → Matched o p R x (mapped f x)
   mapped_matched x h = record {
     kind = refl;
     list = refl;
-    counts = counts_mapped x.numbers;
+    counts = counts_mapped f x.numbers;
     numbers = λ l. (fair_given x.numbers l h).0;
     tests = λ l. (fair_given x.numbers l h).1;
   }

@@ -41,9 +41,8 @@ impl Kind {
         match self {
             Kind::Update { order } => cols.saturating_sub(2) <= order,
             Kind::Cols { count } => count > cols,
-            Kind::SumCol { start, end } => (end > cols) | (start > end),
-            Kind::AddCol { column } => column >= cols,
-            Kind::SetCol { column } => column >= cols,
+            Kind::SumCol { start, end } => end > cols || start > end,
+            Kind::AddCol { column } | Kind::SetCol { column } => column >= cols,
             _ => false,
         }
     }
@@ -80,10 +79,6 @@ impl Kind {
     pub fn reads_list(self) -> bool
         ensures { result ≡ listed self }
     {
-        match self {
-            Kind::Gather => true,
-            Kind::Scatter => true,
-            _ => false,
-        }
+        matches!(self, Kind::Gather | Kind::Scatter)
     }
 }

@@ -1,7 +1,10 @@
+use Rattle.shape.proofs.Answered.{on_ok}
 use Rattle.std.proofs.Common.{refl}
 use Rattle.shape.specs.Shapes.{column_of}
 use Rattle.state.specs.Memory.{vector_of}
-use Rattle.backward.proofs.Moves.{added, column_put}
+use Rattle.state.proofs.Lanes.{vector_in}
+use Rattle.forward.proofs.Families.{column_put}
+use Rattle.backward.proofs.Moves.{added}
 use Rattle.backward.proofs.columns.add_column_back.Goals as goal
 
 pub returns : goal.returns
@@ -10,8 +13,8 @@ returns g c =
     let t = c.args.t in
     let es = c.args.es.now in
     let column = column_of t c.args.j in
-    let done = added s.means s.ops _ _ (vector_of t) column _ c.args.ps.now es c.add_assign.new.ys c.vector-v.ensures c.column.ensures c.requires.first
-    (record { fits = c.requires.table; within = c.requires.within }) refl refl c.add_assign.auto.ys c.add_assign.ensures.verdict c.add_assign.ensures.accepted in
+    let done = added s.means s.ops _ _ (vector_of t) column _ c.args.ps.now es c.add_assign.new.ys c.vector-v.ensures c.column.ensures (vector_in c.args.t _ c.requires.first)
+    (record { fits = c.requires.table; within = c.requires.within }) refl refl c.add_assign.auto.ys c.add_assign.ensures.verdict (on_ok c.add_assign.result c.add_assign.ensures.accepted) in
     λ qs b l. record {
       table = λ k i h m. column_put s.means s.ops t c.args.j _ es c.add_assign.new.ys done b k i (record { lane = l; col = h; row = m });
       first = λ i h. refl;

@@ -1,3 +1,4 @@
+use Rattle.shape.proofs.Answered.{on_ok}
 use Rattle.std.proofs.Common.{map, length, refl, ◌∙◌}
 use Rattle.differences.specs.Rows.{number}
 use Rattle.forward.proofs.Passes.{mul_cols_passes}
@@ -13,5 +14,5 @@ returns g c = λ us vs b l.
     let ns = c.args.numbers.now in
     let passes = mul_cols_passes t (length ds) n (length ns) (length c.args.work.now) c.requires.table c.requires.room c.requires.within c.requires.few c.requires.numbers in
     let done = columns_multiplied s.means s.ops t n (number s.ops n (map s.means ns)) ds c.mul_cols_by.new.ts c.requires.table c.mul_cols_by.auto.ts
-    (c.mul_cols_by.ensures.accepted (c.mul_cols_by.ensures.verdict ∙ passes)) in
+    ((on_ok c.mul_cols_by.result c.mul_cols_by.ensures.accepted) (c.mul_cols_by.ensures.verdict ∙ passes)) in
     record { table = λ j i h k. done b j i (record { lane = l; col = h; row = k }); first = λ i h. refl; second = λ i h. refl }

@@ -1,9 +1,11 @@
+use Rattle.shape.proofs.Answered.{on_ok}
 use Rattle.std.proofs.Common.{◌≡◌, length, sym, refl, ◌∙◌, ap₂, arith}
 use Rattle.scalar.specs.Sums.{at}
 use Rattle.scalar.proofs.Stored.{at_read}
 use Rattle.vector.specs.Rows.{blend}
 use Rattle.state.specs.Memory.{vector_of}
-use Rattle.forward.proofs.Families.{zipped, vector_in}
+use Rattle.state.proofs.Lanes.{vector_in}
+use Rattle.forward.proofs.Families.{zipped}
 use Rattle.forward.proofs.vectors.axpy_step.Goals as goal
 
 pub returns : goal.returns
@@ -19,5 +21,5 @@ returns g c = λ ds b l.
     (λ p q v. s.means v ≡ blend s.ops (s.means c.index-numbers-0.result) (s.means p) (s.means c.index-numbers-1.result) (s.means q)) (vector_of t) c.vector-rows.result vs (vector_of t) c.vector-rows.result us c.axpy.new.ys _
     (λ p q v e. e ∙ ap₂ (λ x y. blend s.ops x (s.means p) y (s.means q)) (sym first) (sym second))
     c.vector-rows.ensures c.vector-rows.ensures (vector_in t (length vs) c.requires.second) (vector_in t (length us) c.requires.first) refl refl
-    c.axpy.auto.ys c.axpy.ensures.verdict c.axpy.ensures.accepted in
+    c.axpy.auto.ys c.axpy.ensures.verdict (on_ok c.axpy.result c.axpy.ensures.accepted) in
     record { table = λ j i h k. refl; first = λ i h. done.rows b i l h; second = λ i h. refl }

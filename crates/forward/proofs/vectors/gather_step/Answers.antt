@@ -1,6 +1,7 @@
+use Rattle.shape.proofs.Answered.{on_ok}
 use Rattle.std.proofs.Common.{length, refl}
 use Rattle.state.specs.Memory.{vector_of}
-use Rattle.forward.proofs.Families.{vector_in}
+use Rattle.state.proofs.Lanes.{vector_in}
 use Rattle.forward.proofs.Routes.{gathered}
 use Rattle.forward.proofs.vectors.gather_step.Goals as goal
 
@@ -12,5 +13,5 @@ returns g c = λ ds b l.
     let vs = c.args.vs.now in
     let done = gathered s.means s.ops c.args.list.now (vector_of t) c.vector-rows.result vs (vector_of t) c.vector-rows.result us c.gather.new.ys _
     c.vector-rows.ensures c.vector-rows.ensures (vector_in t (length vs) c.requires.second) (vector_in t (length us) c.requires.first) refl c.requires.long c.requires.inside
-    c.gather.auto.ys c.gather.ensures.verdict c.gather.ensures.accepted in
+    c.gather.auto.ys c.gather.ensures.verdict (on_ok c.gather.result c.gather.ensures.accepted) in
     record { table = λ j i h k. refl; first = λ i h. done.rows b i l h; second = λ i h. refl }

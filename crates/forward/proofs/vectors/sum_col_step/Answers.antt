@@ -1,3 +1,4 @@
+use Rattle.shape.proofs.Answered.{on_ok}
 use Rattle.std.proofs.Common.{◌≡◌, ◌+◌, ◌-◌, length, take, drop, sym, refl, ap, ◌∙◌, subst, ap₂, arith}
 use Rattle.std.proofs.lemmas.List.{take_rest, length-drop}
 use Rattle.scalar.specs.Sums.{at}
@@ -10,7 +11,7 @@ use Rattle.product.specs.Results.{row_of, GemvCols}
 use Rattle.shape.specs.Shapes.{cell}
 use Rattle.state.specs.Memory.{vector_of}
 use Rattle.forward.proofs.Passes.{gemv_cols_passes}
-use Rattle.forward.proofs.Families.{vector_in}
+use Rattle.state.proofs.Lanes.{vector_in}
 use Rattle.forward.proofs.Columns.{at_rest, columns_summed}
 use Rattle.forward.proofs.vectors.sum_col_step.Goals as goal
 
@@ -35,7 +36,7 @@ returns g c = λ vs b l.
     let done = columns_summed s.means s.ops x y t ds start (end - start) xs (λ m. at s.means s.ops ns (2 + m)) (vector_of t) us c.gemv_cols.new.ys law refl c.gemv_cols.auto.ys
     (λ m h. at_rest s.means s.ops ns 2 m)
     (subst (λ (v : Column). GemvCols s.means s.ops (summed s.ops) x t ds start (end - start) xs y v us c.gemv_cols.new.ys) c.vector-rows.ensures
-    (c.gemv_cols.ensures.accepted (c.gemv_cols.ensures.verdict ∙ named ∙ passes))) in
+    ((on_ok c.gemv_cols.result c.gemv_cols.ensures.accepted) (c.gemv_cols.ensures.verdict ∙ named ∙ passes))) in
     record {
       table = λ j i h k. refl;
       first = λ i h.
