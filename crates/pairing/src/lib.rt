@@ -2,61 +2,36 @@
 //! with the weight at its place.
 #![tactic(auto)]
 
-ghost use Rattle.std.specs.Prelude.{◌≡◌, ℕ, ◌+◌, ◌<◌, ◌≤◌, length, ◌≢◌};
+ghost use Rattle.std.specs.Prelude.{◌≡◌, ℕ, ◌+◌, ◌<◌, ◌≤◌, length, OnOk, OnErr};
 ghost use Rattle.scalar.specs.Ops.{Ops};
 ghost use Rattle.scalar.specs.Sums.{at, sum_from};
 ghost use Rattle.shape.specs.Shapes.{cell, Fits};
 ghost use Rattle.shape.specs.Refusals.{answer, first_of};
 ghost use Rattle.steps.specs.States.{columns_from};
-ghost use Rattle.forward.specs.Forward.{memory};
+ghost use Rattle.state.specs.Memory.{shown, lengths};
 ghost use Rattle.pairing.specs.Pairings.{pairing_tests, Pairable, lane_pairing};
 
 use scalar::Scalar;
-use shape::check::{misfits, no_lanes, too_large};
 use shape::{Column, Refusal, TableShape};
-
-fn test_pairing(
-    t: TableShape,
-    d_len: usize,
-    u_len: usize,
-    v_len: usize,
-    e_len: usize,
-    p_len: usize,
-    q_len: usize,
-    sum_len: usize,
-) -> Result<(), Refusal>
-    ensures { answer result ≡ first_of (pairing_tests t d_len u_len v_len e_len p_len q_len sum_len) }
-{
-    if no_lanes(t) {
-        return Err(Refusal::NoLanes);
-    }
-    if too_large(t) {
-        return Err(Refusal::TooLarge);
-    }
-    let vector = Column::vector(t.rows, t.lanes).of;
-    let state = misfits(t, d_len) | (misfits(vector, u_len) | misfits(vector, v_len));
-    let weights = misfits(t, e_len) | (misfits(vector, p_len) | misfits(vector, q_len));
-    if state | (weights | (sum_len != t.lanes)) {
-        return Err(Refusal::Memory);
-    }
-    Ok(())
-}
+use state::Parts;
+use state::parts::check_parts;
 
 /// The tests of `pairings`, and what acceptance tells.
 fn check_pairing(
     t: TableShape,
-    d_len: usize,
-    u_len: usize,
-    v_len: usize,
-    e_len: usize,
-    p_len: usize,
-    q_len: usize,
-    sum_len: usize,
+    state: Parts<usize>,
+    weights: Parts<usize>,
+    sums: usize,
 ) -> Result<(), Refusal>
-    ensures verdict { answer result ≡ first_of (pairing_tests t d_len u_len v_len e_len p_len q_len sum_len) }
-    ensures lawful { answer result ≡ 0 → Pairable t d_len u_len v_len e_len p_len q_len sum_len }
+    ensures verdict { answer result ≡ first_of (pairing_tests t state weights sums) }
+    ensures lawful { OnOk result (Pairable t state weights sums) }
 {
-    test_pairing(t, d_len, u_len, v_len, e_len, p_len, q_len, sum_len)
+    check_parts(t, state)?;
+    check_parts(t, weights)?;
+    if sums != t.lanes {
+        return Err(Refusal::Memory);
+    }
+    Ok(())
 }
 
 /// `sum`, and then the products of two runs, added in their order.
@@ -65,8 +40,8 @@ fn add_products<S: Scalar>(sum: S, xs: &[S], ys: &[S]) -> S
     ensures { S.means result ≡ sum_from S.ops (S.means sum) (λ i. S.ops.times (at S.means S.ops xs.now i) (at S.means S.ops ys.now i)) (length xs.now) }
 {
     let mut sum = sum;
-    for i in 0..xs.len() {
-        sum = sum.add(xs[i].mul(ys[i]));
+    for (i, x) in xs.iter().enumerate() {
+        sum = sum.add(x.mul(ys[i]));
     }
     sum
 }
@@ -106,42 +81,24 @@ fn pair_table<S: Scalar>(t: TableShape, ds: &[S], es: &[S], lane: usize) -> S
 }
 
 /// One lane of an accepted call.
-fn pair_lane<S: Scalar>(
-    t: TableShape,
-    ds: &[S],
-    us: &[S],
-    vs: &[S],
-    es: &[S],
-    ps: &[S],
-    qs: &[S],
-    lane: usize,
-) -> S
-    requires room { Pairable t (length ds.now) (length us.now) (length vs.now) (length es.now) (length ps.now) (length qs.now) t.lanes }
+fn pair_lane<S: Scalar>(t: TableShape, state: Parts<&[S]>, weights: Parts<&[S]>, lane: usize) -> S
+    requires room { Pairable t (lengths (shown state)) (lengths (shown weights)) t.lanes }
     requires lane { lane < t.lanes }
-    ensures { S.means result ≡ lane_pairing S.means S.ops t (memory ds.now us.now vs.now) (memory es.now ps.now qs.now) lane }
+    ensures { S.means result ≡ lane_pairing S.means S.ops t (shown state.entry) (shown weights.entry) lane }
 {
     let vector = Column::vector(t.rows, t.lanes);
-    let table = pair_table(t, ds, es, lane);
-    let first = add_column(table, vector, us, ps, lane);
-    add_column(first, vector, vs, qs, lane)
+    let table = pair_table(t, state.table, weights.table, lane);
+    let first = add_column(table, vector, state.first, weights.first, lane);
+    add_column(first, vector, state.second, weights.second, lane)
 }
 
 /// Every lane of an accepted call.
-fn pair_lanes<S: Scalar>(
-    t: TableShape,
-    ds: &[S],
-    us: &[S],
-    vs: &[S],
-    es: &[S],
-    ps: &[S],
-    qs: &[S],
-    sums: &mut [S],
-)
-    requires { Pairable t (length ds.now) (length us.now) (length vs.now) (length es.now) (length ps.now) (length qs.now) (length sums.old) }
-    ensures { (b : ℕ) → b < t.lanes → at S.means S.ops sums.new b ≡ lane_pairing S.means S.ops t (memory ds.now us.now vs.now) (memory es.now ps.now qs.now) b }
+fn pair_lanes<S: Scalar>(t: TableShape, state: Parts<&[S]>, weights: Parts<&[S]>, sums: &mut [S])
+    requires { Pairable t (lengths (shown state)) (lengths (shown weights)) (length sums.old) }
+    ensures { (b : ℕ) → b < t.lanes → at S.means S.ops sums.new b ≡ lane_pairing S.means S.ops t (shown state.entry) (shown weights.entry) b }
 {
-    for lane in 0..t.lanes {
-        sums[lane] = pair_lane(t, ds, us, vs, es, ps, qs, lane);
+    for (lane, sum) in sums.iter_mut().enumerate() {
+        *sum = pair_lane(t, state, weights, lane);
     }
 }
 
@@ -153,28 +110,15 @@ fn pair_lanes<S: Scalar>(
 /// entry for each lane. A refusal leaves `sums` as it is.
 pub fn pairings<S: Scalar>(
     t: TableShape,
-    ds: &[S],
-    us: &[S],
-    vs: &[S],
-    es: &[S],
-    ps: &[S],
-    qs: &[S],
+    state: Parts<&[S]>,
+    weights: Parts<&[S]>,
     sums: &mut [S],
 ) -> Result<(), Refusal>
-    ensures verdict { answer result ≡ first_of (pairing_tests t (length ds.now) (length us.now) (length vs.now) (length es.now) (length ps.now) (length qs.now) (length sums.old)) }
-    ensures accepted { answer result ≡ 0 → (b : ℕ) → b < t.lanes → at S.means S.ops sums.new b ≡ lane_pairing S.means S.ops t (memory ds.now us.now vs.now) (memory es.now ps.now qs.now) b }
-    ensures refused { (answer result ≢ 0) → sums.new ≡ sums.old }
+    ensures verdict { answer result ≡ first_of (pairing_tests t (lengths (shown state.entry)) (lengths (shown weights.entry)) (length sums.old)) }
+    ensures accepted { OnOk result ((b : ℕ) → b < t.lanes → at S.means S.ops sums.new b ≡ lane_pairing S.means S.ops t (shown state.entry) (shown weights.entry) b) }
+    ensures refused { OnErr result (sums.new ≡ sums.old) }
 {
-    check_pairing(
-        t,
-        ds.len(),
-        us.len(),
-        vs.len(),
-        es.len(),
-        ps.len(),
-        qs.len(),
-        sums.len(),
-    )?;
-    pair_lanes(t, ds, us, vs, es, ps, qs, sums);
+    check_pairing(t, state.lens(), weights.lens(), sums.len())?;
+    pair_lanes(t, state, weights, sums);
     Ok(())
 }

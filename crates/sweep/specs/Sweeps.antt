@@ -4,6 +4,7 @@ use Rattle.shape.specs.Refusals.{number_of}
 use Rattle.steps.specs.Steps.{Step}
 use Rattle.steps.specs.declared.kind.Kind.TheVariants.{Update}
 use Rattle.state.specs.Memory.{step_of}
+use Rattle.state.specs.declared.record.Script.{Script}
 use Rattle.state.specs.declared.record.StepRecord.{StepRecord}
 use Rattle.sweep.specs.declared.fault.StepFault.{StepFault}
 
@@ -22,8 +23,8 @@ abbrev pub blank : StepRecord
 blank = record { kind = Update 0; numbers_at = 0; number_count = 0; list_at = 0; list_count = 0 }
 
 -- the step at a place of a script, and all steps of it, with the script's numbers and indices
-abbrev pub step_at : {S M : Type 0} → (S → M) → List StepRecord → List S → List ℕ → ℕ → Step M
-step_at means script numbers indices place = step_of means (slice_index_or script place blank) numbers indices
+abbrev pub step_at : {S M : Type 0} → (S → M) → Script S → ℕ → Step M
+step_at means script place = step_of means (slice_index_or script.steps.now place blank) script
 
-abbrev pub steps_of : {S M : Type 0} → (S → M) → List StepRecord → List S → List ℕ → List (Step M)
-steps_of means script numbers indices = map (λ x. step_of means x numbers indices) script
+abbrev pub steps_of : {S M : Type 0} → (S → M) → Script S → List (Step M)
+steps_of means script = map (λ x. step_of means x script) script.steps.now

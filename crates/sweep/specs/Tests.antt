@@ -2,6 +2,7 @@
 use Rattle.std.specs.Prelude.{ℕ, Bool, ◌||◌, List, [], ◌∷◌, ◌++◌, ◌==◌, nat_le, nat_lt}
 use Rattle.shape.specs.Shapes.{no_lanes, too_large}
 use Rattle.shape.specs.declared.operand.TableShape.{TableShape}
+use Rattle.state.specs.declared.parts.Parts.{Parts}
 use Rattle.forward.specs.Tests.{memory_tests}
 use Rattle.backward.specs.Tests.{weights_tests}
 use Rattle.sweep.specs.declared.sweep.Sweep.{Sweep}
@@ -19,8 +20,8 @@ abbrev pub no_latest : Turned → ℕ → List (ℕ × Bool)
 no_latest s count = (12, (s.left == 0) || nat_lt count s.left) ∷ []
 
 -- memories by their lengths
-abbrev pub forward_tests : Sweep → ℕ → ℕ → ℕ → ℕ → ℕ → List (ℕ × Bool)
-forward_tests s count dl ul vl len = memory_tests s.shape dl ul vl len ++ no_next s count
+abbrev pub forward_tests : Sweep → ℕ → Parts ℕ → ℕ → List (ℕ × Bool)
+forward_tests s count l len = memory_tests s.shape l len ++ no_next s count
 
-abbrev pub back_tests : Turned → ℕ → ℕ → ℕ → ℕ → ℕ → ℕ → List (ℕ × Bool)
-back_tests s count el pl ql wl len = weights_tests s.shape el pl ql wl len ++ no_latest s count
+abbrev pub back_tests : Turned → ℕ → Parts ℕ → ℕ → ℕ → List (ℕ × Bool)
+back_tests s count l wl len = weights_tests s.shape l wl len ++ no_latest s count

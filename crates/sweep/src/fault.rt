@@ -1,5 +1,6 @@
 //! Why a step of a sweep was refused, and where.
 ghost use Rattle.std.specs.Prelude.{◌≡◌};
+ghost use Rattle.shape.specs.Refusals.{answer};
 ghost use Rattle.sweep.specs.Sweeps.{answered};
 
 use shape::Refusal;
@@ -11,12 +12,16 @@ pub struct StepFault {
     pub place: usize,
 }
 
+/// A step's answer without its place.
+pub(crate) fn without_place(taken: Result<(), StepFault>) -> Result<(), Refusal>
+    ensures { answer result ≡ answered taken }
+{
+    taken.map_err(|fault| fault.refusal)
+}
+
 /// The number of a step's answer, 0 where it was accepted.
 pub fn answer_number(answer: Result<(), StepFault>) -> u8
     ensures { result ≡ answered answer }
 {
-    match answer {
-        Ok(()) => 0,
-        Err(fault) => fault.refusal.number(),
-    }
+    without_place(answer).map_or_else(Refusal::number, |()| 0)
 }

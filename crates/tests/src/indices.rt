@@ -1,16 +1,10 @@
 //! What the index calls and batched_axpy write, keep and refuse.
+use crate::number;
 use index::{assign_at_indices, copy_from_indices, fill_index, gather, scatter};
 use scalar::{Scale, Wrap};
-use shape::{Column, Refusal};
+use shape::Column;
 use std::test::Fail;
 use vector::batched_axpy;
-
-fn number(answer: Result<(), Refusal>) -> u8 {
-    match answer {
-        Ok(()) => 0,
-        Err(refusal) => refusal.number(),
-    }
-}
 
 #[test]
 fn gather_repeats_a_row(rt: HostRuntime) -> Result<(), Fail> {

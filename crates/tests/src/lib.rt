@@ -9,3 +9,9 @@ mod norms;
 mod scalars;
 #[cfg(test)]
 mod vectors;
+
+/// The number of an answer, 0 where the call was accepted.
+#[cfg(test)]
+fn number(answer: Result<(), shape::Refusal>) -> u8 {
+    answer.map_or_else(shape::Refusal::number, |()| 0)
+}

@@ -1,15 +1,9 @@
 //! What the vector calls write, keep and refuse.
+use crate::number;
 use scalar::{Residue, Scale, Wrap};
-use shape::{Column, Refusal, TableShape};
+use shape::{Column, TableShape};
 use std::test::Fail;
 use vector::{axpy, copy_from, div_assign, sub_into};
-
-fn number(answer: Result<(), Refusal>) -> u8 {
-    match answer {
-        Ok(()) => 0,
-        Err(refusal) => refusal.number(),
-    }
-}
 
 #[test]
 fn axpy_at_minus_zero_drops_y(rt: HostRuntime) -> Result<(), Fail> {

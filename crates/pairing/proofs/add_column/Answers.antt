@@ -1,5 +1,4 @@
-use Rattle.std.proofs.Common.{◌+◌, length, ap, ◌∙◌, arith}
-use Rattle.scalar.specs.Sums.{at, sum_from}
+use Rattle.std.proofs.Common.{length, arith}
 use Rattle.shape.proofs.Blocks.{band_fits}
 use Rattle.pairing.proofs.add_column.Goals as goal
 
@@ -12,11 +11,3 @@ add_part-requires g c =
     let x = band_fits v.of xl c.args.lane v.col 1 c.requires.entries c.requires.lane (omega (arith, c.requires.column)) in
     let y = band_fits v.of yl c.args.lane v.col 1 c.requires.weights c.requires.lane (omega (arith, c.requires.column)) in
     record { entries = omega arith; weights = omega arith }
-
-pub returns : goal.returns
-returns g c =
-    let s = g.S.Scalar in
-    let v = c.args.v in
-    let from = c.start.ensures (length c.args.xs.now) (record { fits = c.requires.entries; within = c.requires.column }) c.requires.lane in
-    c.add_part.ensures
-    ∙ ap (λ z. sum_from s.ops (s.means c.args.sum) (λ i. s.ops.times (at s.means s.ops c.args.xs.now (z + i)) (at s.means s.ops c.args.ys.now (z + i))) v.of.rows) from

@@ -1,15 +1,9 @@
-use Rattle.std.proofs.Common.{ap, ◌∙◌, ap₂, arith}
+use Rattle.std.proofs.Common.{ap, ◌∙◌, ap₂}
 use Rattle.scalar.specs.Sums.{sum_from}
 use Rattle.scalar.proofs.SumLaws.{sum_same}
 use Rattle.shape.proofs.Parts.{length_part}
 use Rattle.product.proofs.Entries.{at_part}
 use Rattle.pairing.proofs.add_part.Goals as goal
-
-pub add_products-requires : goal.add_products-requires
-add_products-requires g c =
-    let x = length_part c.args.xs.now c.args.from c.args.rows c.requires.entries in
-    let y = length_part c.args.ys.now c.args.from c.args.rows c.requires.weights in
-    omega arith
 
 pub returns : goal.returns
 returns g c =
