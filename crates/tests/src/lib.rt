@@ -6,6 +6,8 @@ mod indices;
 #[cfg(test)]
 mod norms;
 #[cfg(test)]
+mod runs;
+#[cfg(test)]
 mod scalars;
 #[cfg(test)]
 mod vectors;
