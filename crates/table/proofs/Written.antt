@@ -11,11 +11,11 @@ use Rattle.shape.specs.declared.operand.Column.{Column}
 use Rattle.shape.proofs.Blocks.{cells_are}
 use Rattle.shape.proofs.Cells.{changed_as}
 use Rattle.shape.proofs.Passes.{pair_passes, own_lane}
-use Rattle.elementwise.specs.Entrywise.{Entrywise, Tablewise, RevisedTable}
+use Rattle.elementwise.specs.Entrywise.{Entrywise, Tablewise}
 use Rattle.index.specs.Calls.{Routed}
 use Rattle.index.specs.declared.route.Route.TheVariants.{Copy}
 use Rattle.table.specs.Tests.{ColumnsLawful, DiagonalLawful, ResizeLawful}
-use Rattle.table.specs.Calls.{ScaleAdded, ColumnsAdded, Diagonal, Resized}
+use Rattle.table.specs.Calls.{ScaleAdded, ColumnsAdded}
 
 module _ {S M : Type 0} (means : S → M) (o : Ops M) where
   -- a copy of x, and then the gain of beta·y
@@ -56,12 +56,6 @@ module _ {S M : Type 0} (means : S → M) (o : Ops M) where
     pub other : (b j i : ℕ) (d : S) → In t b j i → (j < m → i ≡ j → ⊥) → means (get_or cur (cell t b j i) d) ≡ o.zero
 
   module _ (v : Column) (vs : List S) (t : TableShape) where
-    pub placed_none : (zero : S) (old cur : List S) → means zero ≡ o.zero → RevisedTable t (λ q w. w ≡ zero) old cur → Placed v vs t 0 cur
-    placed_none zero old cur e filled = record {
-      diagonal = λ b j i d d' w h q. absurd (omega arith);
-      other = λ b j i d w n. ap means (filled.written b j i d w tt d) ∙ e;
-    }
-
     pub placed_more : (vl tl m : ℕ) (cur cur' : List S) → DiagonalLawful v vl t tl → Placed v vs t m cur → Routed Copy v vs (m ∷ []) (column_of t m) cur cur' → Placed v vs t (m + 1) cur'
     placed_more vl tl m cur cur' law before wrote = record {
       diagonal = λ b j i d e w h q. elim (cases_eq j m) [
@@ -87,24 +81,12 @@ module _ {S M : Type 0} (means : S → M) (o : Ops M) where
       ];
     }
 
-    pub placed_all : (m : ℕ) (old cur : List S) → t.cols ≤ m → Placed v vs t m cur → Diagonal means o v vs t old cur
-    placed_all m old cur end done = record {
-      written = λ b j i d w h. record { diagonal = λ e q. done.diagonal b j i d e w (omega (arith, w.col)) q; other = λ n. done.other b j i d w (λ _ q. n q) };
-      kept = λ b j i d w n. absurd (n tt);
-    }
-
   -- the columns below m that x has are copied, and those that it has not mean zero
   pub record Brought (x : TableShape) (xs : List S) (y : TableShape) (m : ℕ) (cur : List S) : Type 0 where
     pub copied : (b j i : ℕ) (d e : S) → In y b j i → j < m → j < x.cols → get_or cur (cell y b j i) d ≡ get_or xs (cell x b j i) e
     pub further : (b j i : ℕ) (d : S) → In y b j i → x.cols ≤ j → means (get_or cur (cell y b j i) d) ≡ o.zero
 
   module _ (x : TableShape) (xs : List S) (y : TableShape) where
-    pub brought_none : (zero : S) (old cur : List S) → means zero ≡ o.zero → RevisedTable y (λ q w. w ≡ zero) old cur → Brought x xs y 0 cur
-    brought_none zero old cur e filled = record {
-      copied = λ b j i d d' w h q. absurd (omega arith);
-      further = λ b j i d w n. ap means (filled.written b j i d w tt d) ∙ e;
-    }
-
     pub brought_more : (xl yl m : ℕ) (cur cur' : List S) → ResizeLawful x xl y yl → m < x.cols → Brought x xs y m cur → Entrywise (column_of x m) xs (column_of y m) (λ p q w. w ≡ p) cur cur'
         → Brought x xs y (m + 1) cur'
     brought_more xl yl m cur cur' law within before wrote = record {
@@ -115,10 +97,4 @@ module _ {S M : Type 0} (means : S → M) (o : Ops M) where
         | inr there ↦ wrote.kept b j i d w there ∙ before.copied b j i d e w (omega arith) q
       ];
       further = λ b j i d w h. ap means (wrote.kept b j i d w (λ here. omega arith)) ∙ before.further b j i d w h;
-    }
-
-    pub brought_all : (m : ℕ) (old cur : List S) → ((j : ℕ) → j < x.cols → j < y.cols → j < m) → Brought x xs y m cur → Resized means o x xs y old cur
-    brought_all m old cur end done = record {
-      written = λ b j i d w h. record { copied = λ e q. done.copied b j i d e w (end j q w.col) q; further = λ q. done.further b j i d w q };
-      kept = λ b j i d w n. absurd (n tt);
     }

@@ -1,18 +1,9 @@
 use Rattle.shape.proofs.Answered.{on_ok}
 use Rattle.std.proofs.Common.{length, ◌∙◌, arith}
 use Rattle.shape.specs.Shapes.{column_of, Fits}
-use Rattle.shape.proofs.Passes.{shape_passes}
 use Rattle.table.proofs.Passes.{copy_passes}
-use Rattle.table.proofs.Written.{placed_none, placed_more, placed_all}
+use Rattle.table.proofs.Written.{placed_more}
 use Rattle.table.proofs.reshape.place_diagonal.Goals as goal
-
-pub loop-i-init : goal.loop-i-init
-loop-i-init g c =
-    let s = g.S.Scalar in
-    let t = c.args.t in
-    let old = c.args.ts.now in
-    placed_none s.means s.ops c.args.v c.args.vs.now t c.zero.result old c.fill.new.ys c.zero.ensures
-    (on_ok c.fill.result c.fill.ensures.accepted (c.fill.ensures.verdict ∙ shape_passes t (length old) c.requires.target))
 
 pub loop-i-preserved : goal.loop-i-preserved
 loop-i-preserved g c =
@@ -28,8 +19,3 @@ loop-i-preserved g c =
     let wrote = rw c.column.ensures at c.copy_from_indices.ensures in
     placed_more s.means s.ops v vs t (length vs) (length c.args.ts.now) i cur c.copy_from_indices.new.ys c.requires c.loop-i.invariant
     (on_ok _ wrote.accepted (wrote.verdict ∙ passes))
-
-pub returns : goal.returns
-returns g c =
-    let s = g.S.Scalar in
-    placed_all s.means s.ops c.args.v c.args.vs.now c.args.t c.loop-i.i _ _ c.loop-i-test.false c.loop-i.invariant
