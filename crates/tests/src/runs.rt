@@ -23,18 +23,6 @@ fn step(kind: Kind, number_count: usize, list_count: usize) -> StepRecord {
     }
 }
 
-fn lend<'a>(
-    table: &'a mut [Wrap],
-    first: &'a mut [Wrap],
-    second: &'a mut [Wrap],
-) -> Parts<&'a mut [Wrap]> {
-    Parts {
-        table,
-        first,
-        second,
-    }
-}
-
 #[test]
 fn a_pairing_adds_all_products(rt: HostRuntime) -> Result<(), Fail> {
     let d = [Wrap(2), Wrap(3), Wrap(5)];
@@ -78,8 +66,8 @@ fn a_run_keeps_the_pairing(rt: HostRuntime) -> Result<(), Fail> {
     let mut sums = [Wrap(0)];
     let mut work = [Wrap(0); 8];
     let mut answers = [Ok(()); 4];
-    let mut state = lend(&mut d, &mut u, &mut v);
-    let mut weights = lend(&mut e, &mut p, &mut q);
+    let mut state = Parts::lend(&mut d, &mut u, &mut v);
+    let mut weights = Parts::lend(&mut e, &mut p, &mut q);
     run_script(
         SHAPE,
         script,
@@ -145,7 +133,7 @@ fn a_sweep_with_no_step_left(rt: HostRuntime) -> Result<(), Fail> {
     let mut v = [Wrap(0)];
     let mut work = [Wrap(0); 8];
     let mut sweep = Sweep::open(SHAPE).map_err(|_| Fail::new("refused"))?;
-    let mut state = lend(&mut d, &mut u, &mut v);
+    let mut state = Parts::lend(&mut d, &mut u, &mut v);
     match sweep.step(script, &mut state, &mut work) {
         Ok(()) => Err(Fail::new("taken")),
         Err(fault) => {
