@@ -2,10 +2,11 @@ use Rattle.shape.proofs.Answered.{on_ok}
 use Rattle.std.proofs.Common.{length, refl, ◌∙◌}
 use Rattle.forward.proofs.Passes.{mul_cols_passes}
 use Rattle.forward.proofs.Columns.{columns_multiplied}
+use Rattle.state.proofs.Beyond.{columns_kept}
 use Rattle.backward.proofs.tables.multiply_back.Goals as goal
 
-pub returns : goal.returns
-returns g c =
+pub returns-clause-back : goal.returns-clause-back
+returns-clause-back g c =
     let s = g.S.Scalar in
     let t = c.args.t in
     let es = c.args.es.now in
@@ -17,3 +18,8 @@ returns g c =
       first = λ i h. refl;
       second = λ i h. refl;
     }
+
+pub returns-clause-kept : goal.returns-clause-kept
+returns-clause-kept g c =
+    let call = c.mul_cols_by_transpose in
+    columns_kept c.args.t 0 c.args.k c.args.es.now call.new.ts call.result (λ done. done.kept) (λ left. left.0) call.ensures.accepted call.ensures.refused
