@@ -2,6 +2,8 @@
 ghost use Rattle.std.specs.Prelude.{◌≡◌, ℕ, ◌+◌, ◌-◌, ◌*◌, ◌<◌, ◌≤◌, List, [], map, length};
 ghost use Rattle.scalar.specs.Ops.{Ops};
 ghost use Rattle.shape.specs.Shapes.{Fits};
+ghost use Rattle.differences.specs.Rows.{number};
+ghost use Rattle.differences.specs.MulCols.{Multiplied};
 ghost use Rattle.state.specs.Memory.{memory, vector_of};
 ghost use Rattle.state.specs.Reach.{ColumnsKept};
 ghost use Rattle.steps.specs.declared.kind.Kind.TheVariants.{Update, Cols, SumCol};
@@ -37,6 +39,25 @@ pub(crate) fn sum_columns_back<S: Scalar>(
     let _ = mul_assign(Scale(numbers[1]), v, ps);
 }
 
+/// The product with the numbers' matrix transposed: operands that hold their shapes are not refused.
+#[tactic(auto, using(forward::proofs::Passes::mul_cols_passes))]
+fn multiply_transposed<S: Scalar>(
+    t: TableShape,
+    es: &mut [S],
+    k: usize,
+    numbers: &[S],
+    work: &mut [S],
+)
+    requires table { Fits t (length es.old) }
+    requires within { k ≤ t.cols }
+    requires few { k ≤ 8 }
+    requires numbers { length numbers.now ≡ k * k }
+    requires room { 8 ≤ length work.old }
+    ensures { Multiplied S.means S.ops t k (λ j l. number S.ops k (map S.means numbers.now) l j) es.old es.new }
+{
+    let _ = mul_cols_by_transpose(t, es, k, numbers, work);
+}
+
 /// The columns below k of E times the numbers' matrix transposed.
 pub(crate) fn multiply_back<S: Scalar>(
     t: TableShape,
@@ -53,7 +74,7 @@ pub(crate) fn multiply_back<S: Scalar>(
     ensures back { (ps qs : List S) → BackBy S.means S.ops t (Cols k) (map S.means numbers.now) [] (memory es.old ps qs) (memory es.new ps qs) }
     ensures kept { ColumnsKept t 0 k es.old es.new }
 {
-    let _ = mul_cols_by_transpose(t, es, k, numbers, work);
+    multiply_transposed(t, es, k, numbers, work);
 }
 
 /// The update's transpose of E, and p gains the sum of the columns 0 to order + 2 as they were,
