@@ -1,6 +1,5 @@
 use Rattle.std.proofs.Common.{refl}
 use Rattle.forward.proofs.Columns.{columns_multiplied}
-use Rattle.state.proofs.Beyond.{columns_kept}
 use Rattle.backward.proofs.tables.multiply_back.Goals as goal
 
 pub returns-clause-back : goal.returns-clause-back
@@ -13,8 +12,3 @@ returns-clause-back g c =
       first = λ i h. refl;
       second = λ i h. refl;
     }
-
-pub returns-clause-kept : goal.returns-clause-kept
-returns-clause-kept g c =
-    let call = c.mul_cols_by_transpose in
-    columns_kept c.args.t 0 c.args.k c.args.es.now call.new.ts call.result (λ done. done.kept) (λ left. left.0) call.ensures.accepted call.ensures.refused
