@@ -5,6 +5,7 @@ ghost use Rattle.shape.specs.Shapes.{Fits};
 ghost use Rattle.differences.specs.Rows.{number};
 ghost use Rattle.differences.specs.MulCols.{Multiplied};
 ghost use Rattle.state.specs.Memory.{memory, vector_of};
+ghost use Rattle.state.specs.Reach.{ColumnsKept};
 ghost use Rattle.steps.specs.declared.kind.Kind.TheVariants.{Update, Cols, SumCol};
 ghost use Rattle.backward.specs.Backs.{BackBy};
 
@@ -30,7 +31,8 @@ pub(crate) fn sum_columns_back<S: Scalar>(
     requires ordered { start ≤ end }
     requires few { end - start ≤ 8 }
     requires numbers { length numbers.now ≡ 2 + (end - start) }
-    ensures { (qs : List S) → BackBy S.means S.ops t (SumCol start end) (map S.means numbers.now) [] (memory es.old ps.old qs) (memory es.new ps.new qs) }
+    ensures back { (qs : List S) → BackBy S.means S.ops t (SumCol start end) (map S.means numbers.now) [] (memory es.old ps.old qs) (memory es.new ps.new qs) }
+    ensures kept { ColumnsKept t start (end - start) es.old es.new }
 {
     let v = Column::vector(t.rows, t.lanes);
     let _ = ger_cols(Scale(numbers[0]), &numbers[2..], v, ps, t, es, start, end);
@@ -69,7 +71,8 @@ pub(crate) fn multiply_back<S: Scalar>(
     requires few { k ≤ 8 }
     requires numbers { length numbers.now ≡ k * k }
     requires room { 8 ≤ length work.old }
-    ensures { (ps qs : List S) → BackBy S.means S.ops t (Cols k) (map S.means numbers.now) [] (memory es.old ps qs) (memory es.new ps qs) }
+    ensures back { (ps qs : List S) → BackBy S.means S.ops t (Cols k) (map S.means numbers.now) [] (memory es.old ps qs) (memory es.new ps qs) }
+    ensures kept { ColumnsKept t 0 k es.old es.new }
 {
     multiply_transposed(t, es, k, numbers, work);
 }
@@ -90,7 +93,8 @@ pub(crate) fn update_back<S: Scalar>(
     requires within { order + 2 < t.cols }
     requires few { order ≤ 5 }
     requires room { 8 ≤ length work.old }
-    ensures { (qs : List S) → BackBy S.means S.ops t (Update order) [] [] (memory es.old ps.old qs) (memory es.new ps.new qs) }
+    ensures back { (qs : List S) → BackBy S.means S.ops t (Update order) [] [] (memory es.old ps.old qs) (memory es.new ps.new qs) }
+    ensures kept { ColumnsKept t 0 (order + 3) es.old es.new }
 {
     let v = Column::vector(t.rows, t.lanes);
     let _ = update_backward_diff_transpose(t, es, order, v, ws, work);

@@ -2,8 +2,8 @@ use Rattle.std.proofs.Common.{refl}
 use Rattle.forward.proofs.Columns.{columns_multiplied}
 use Rattle.backward.proofs.tables.multiply_back.Goals as goal
 
-pub returns : goal.returns
-returns g c =
+pub returns-clause-back : goal.returns-clause-back
+returns-clause-back g c =
     let s = g.S.Scalar in
     let call = c.multiply_transposed in
     let table = columns_multiplied s.means s.ops c.args.t c.args.k _ c.args.es.now call.new.es c.requires.table call.auto.es call.ensures in
