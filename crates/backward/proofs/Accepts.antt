@@ -5,12 +5,11 @@ use Rattle.shape.specs.Shapes.{no_column, misfit, Fits, Lawful}
 use Rattle.shape.specs.Refusals.{first_of}
 use Rattle.shape.specs.declared.operand.Column.{Column}
 use Rattle.shape.specs.declared.operand.TableShape.{TableShape}
-use Rattle.shape.proofs.Passes.{none_fits, same_lanes}
+use Rattle.shape.proofs.Passes.{none_fits, same_lanes, sound, both_sound, column_there, columns_there}
 use Rattle.index.specs.Indices.{outside}
 use Rattle.index.specs.Transposes.{back_tests}
 use Rattle.product.specs.Tests.{ger_cols_tests}
 use Rattle.differences.specs.Transposes.{transpose_tests}
-use Rattle.forward.proofs.Passes.{sound, both_sound, column_there, columns_there}
 
 pub back_accepted : (p : Column) (pl : ℕ) (list : List ℕ) (q : Column) (ql : ℕ) → Lawful p pl → Lawful q ql → p.of.lanes ≡ q.of.lanes
     → length list ≡ p.of.rows → outside q.of.rows list ≡ false → first_of (back_tests p pl list q ql) ≡ 0

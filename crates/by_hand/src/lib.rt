@@ -9,7 +9,6 @@ ghost use Rattle.steps.specs.Lanes.{RunForward, RunBack};
 ghost use Rattle.state.specs.Memory.{held, SameLoan, lengths, lane_of};
 ghost use Rattle.forward.specs.Tests.{memory_tests};
 ghost use Rattle.backward.specs.Tests.{weights_tests};
-ghost use Rattle.sweep.specs.Sweeps.{answered};
 ghost use Rattle.sweep.specs.Scripts.{PairedAlike};
 ghost use Rattle.by_hand.specs.Firsts.{first_steps, lent_tests, first_tests};
 
@@ -18,7 +17,7 @@ use forward::check::check_memory;
 use scalar::Scalar;
 use shape::{Refusal, TableShape};
 use state::{Parts, Script};
-use sweep::{StepFault, Sweep, Turned, laws_of_runs};
+use sweep::{Sweep, Turned, laws_of_runs, without_place};
 
 /// The tests of the memories of `run_first`, and what acceptance tells.
 fn check_lent(
@@ -58,13 +57,6 @@ fn check_first(
     Ok(())
 }
 
-/// A step's answer without its place.
-fn without_place(taken: Result<(), StepFault>) -> Result<(), Refusal>
-    ensures { answer result ≡ answered taken }
-{
-    taken.map_err(|fault| fault.refusal)
-}
-
 /// The first steps of a script, one for each answer.
 fn take_first<S: Scalar>(
     sweep: &mut Sweep,
@@ -99,7 +91,7 @@ fn carry_taken<S: Scalar>(
     ensures lent { SameLoan weights.old weights.new }
     ensures run { (ks : List ℕ) × RunBack S.ops turned.old.shape.rows turned.old.shape.cols turned.old.shape.lanes (lane_of S.means S.ops turned.old.shape) (first_steps S.means script.entry turned.old.left) ks (held weights.old) (held weights.new) }
 {
-    for _ in 0..turned.left {
+    for _ in 0..turned.left() {
         let _ = turned.back(script, weights, ws, work);
     }
 }

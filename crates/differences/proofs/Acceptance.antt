@@ -1,27 +1,13 @@
--- What a verdict of 0 tells of the operands, and which operands have one. Assumes nothing.
-use Rattle.std.proofs.Common.{◌≡◌, ℕ, ◌+◌, ◌-◌, false, ltb, arith}
-use Rattle.std.proofs.lemmas.Bool.{or_from, ne_eqb, eq-eqb, le-ltb, lt-leb, not_from_true}
+-- Lawful operands of the update's transpose pass the tests of the sum that it makes. Assumes nothing.
+use Rattle.std.proofs.Common.{◌≡◌, ℕ, ◌+◌, ◌-◌, ltb, eq-eqb, arith}
+use Rattle.std.proofs.lemmas.Bool.{or_from, le-ltb, lt-leb, not_from_true}
 use Rattle.shape.specs.Shapes.{no_lanes, too_large, misfit, no_column, Fits}
 use Rattle.shape.specs.Refusals.{first_of}
 use Rattle.shape.specs.declared.operand.Column.{Column}
 use Rattle.shape.specs.declared.operand.TableShape.{TableShape}
-use Rattle.shape.proofs.Passes.{none_fits, not_large}
+use Rattle.shape.proofs.Passes.{none_fits, sound}
 use Rattle.product.specs.Tests.{gemv_cols_tests}
 use Rattle.differences.specs.Transposes.{TransposeLawful}
-
--- ---- and the other way: lawful operands are not refused
-
-pub record Sound (t : TableShape) (len : ℕ) : Type 0 where
-  pub lanes : no_lanes t ≡ false
-  pub large : too_large t ≡ false
-  pub size : misfit t len ≡ false
-
-sound : (t : TableShape) (len : ℕ) → Fits t len → Sound t len
-sound t len f = record {
-  lanes = ne_eqb t.lanes 0 (λ e. omega (arith, f.some));
-  large = not_large t len f;
-  size = not_from_true _ (eq-eqb len _ f.size);
-}
 
 -- the sum of the columns that a transpose names, with `work` coefficients
 pub sum_accepted : (t : TableShape) (len k : ℕ) (d : Column) (dl work : ℕ) → TransposeLawful t len k d dl work → first_of (gemv_cols_tests t len 0 (k + 3) work d dl) ≡ 0

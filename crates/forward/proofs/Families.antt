@@ -15,8 +15,7 @@ use Rattle.index.specs.Transposes.{put}
 use Rattle.steps.proofs.Lists.{put_same, put_other}
 use Rattle.product.proofs.Entries.{cell_kept}
 use Rattle.state.proofs.Lanes.{cell_written, cell_made}
-use Rattle.shape.proofs.Passes.{own_lane, pair_passes}
-use Rattle.forward.proofs.Passes.{column_passes}
+use Rattle.shape.proofs.Passes.{own_lane, pair_passes, column_passes}
 
 module _ {S M : Type 0} (means : S → M) (o : Ops M) where
   -- every row of column y means what `new` says of its lane, and every other column what it meant

@@ -6,49 +6,12 @@ use Rattle.shape.specs.Refusals.{first_of}
 use Rattle.shape.specs.Operands.{shape_tests, column_tests}
 use Rattle.shape.specs.declared.operand.TableShape.{TableShape}
 use Rattle.shape.specs.declared.operand.Column.{Column}
-use Rattle.shape.proofs.Verdicts.{clear}
-use Rattle.shape.proofs.Passes.{none_fits, same_lanes, shape_passes}
+use Rattle.shape.proofs.Passes.{none_fits, same_lanes, shape_passes, sound, both_sound, column_there, columns_there}
 use Rattle.index.specs.Indices.{outside}
 use Rattle.index.specs.Calls.{gather_tests, scatter_tests}
 use Rattle.product.specs.Tests.{gemv_cols_tests}
 use Rattle.differences.specs.MulCols.{mul_cols_tests}
 use Rattle.differences.specs.Updates.{update_tests}
-
--- what a call on a shape tests first
-pub record Sound (t : TableShape) (len : ℕ) : Type 0 where
-  pub lanes : no_lanes t ≡ false
-  pub large : too_large t ≡ false
-  pub size : misfit t len ≡ false
-
-pub sound : (t : TableShape) (len : ℕ) → Fits t len → Sound t len
-sound t len f = let p = clear (shape_tests t len) refl (shape_passes t len f) in record { lanes = p.0; large = p.1.0; size = p.1.1.0 }
-
--- and on two
-pub record BothSound (x : TableShape) (xl : ℕ) (y : TableShape) (yl : ℕ) : Type 0 where
-  pub lanes : no_lanes x || no_lanes y ≡ false
-  pub large : too_large x || too_large y ≡ false
-  pub size : misfit x xl || misfit y yl ≡ false
-
-pub both_sound : (x : TableShape) (xl : ℕ) (y : TableShape) (yl : ℕ) → Fits x xl → Fits y yl → BothSound x xl y yl
-both_sound x xl y yl fx fy =
-    let p = sound x xl fx in
-    let q = sound y yl fy in
-    record {
-      lanes = or_from (no_lanes x) (no_lanes y) p.lanes q.lanes;
-      large = or_from (too_large x) (too_large y) p.large q.large;
-      size = or_from (misfit x xl) (misfit y yl) p.size q.size;
-    }
-
-pub column_there : (v : Column) (len : ℕ) → Lawful v len → no_column v ≡ false
-column_there v len l = lt-leb v.of.cols v.col l.within
-
-pub columns_there : (x : Column) (xl : ℕ) (y : Column) (yl : ℕ) → Lawful x xl → Lawful y yl → no_column x || no_column y ≡ false
-columns_there x xl y yl lx ly = or_from (no_column x) (no_column y) (column_there x xl lx) (column_there y yl ly)
-
-pub column_passes : (v : Column) (len : ℕ) → Lawful v len → first_of (column_tests v len) ≡ 0
-column_passes v len l =
-    let s = sound v.of len l.fits in
-    none_fits (column_tests v len) (s.lanes, (s.large, (s.size, (column_there v len l, tt))))
 
 -- ---- lists
 

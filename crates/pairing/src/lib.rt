@@ -40,8 +40,8 @@ fn add_products<S: Scalar>(sum: S, xs: &[S], ys: &[S]) -> S
     ensures { S.means result ≡ sum_from S.ops (S.means sum) (λ i. S.ops.times (at S.means S.ops xs.now i) (at S.means S.ops ys.now i)) (length xs.now) }
 {
     let mut sum = sum;
-    for (i, x) in xs.iter().enumerate() {
-        sum = sum.add(x.mul(ys[i]));
+    for (x, y) in xs.iter().zip(ys) {
+        sum = sum.add(x.mul(*y));
     }
     sum
 }

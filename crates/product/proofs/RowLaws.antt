@@ -4,7 +4,7 @@ use Rattle.std.proofs.lemmas.Bool.{cond-true, lt-ltb, le-leb, and_from}
 use Rattle.scalar.specs.Ops.{Ops, Ring}
 use Rattle.scalar.specs.Sums.{sum, sum_from}
 use Rattle.scalar.proofs.SumLaws.{sum_same}
-use Rattle.scalar.specs.RingLaws.{zero_plus, times_zero}
+use Rattle.scalar.specs.RingLaws.{zero_plus, times_zero, zero_times}
 use Rattle.vector.specs.Rows.{blend}
 use Rattle.product.specs.Rows.{summed, linear, spread}
 
@@ -29,16 +29,13 @@ module _ {M : Type 0} (o : Ops M) where
   spread_in e start n a x p j h l = cond-true (leb start j && ltb j (start + n)) _ _ (and_from _ _ (le-leb start j h) (lt-ltb j (start + n) l))
 
 module _ {M : Type 0} (o : Ops M) (r : Ring o) where
-  zero_times : (a : M) → o.times o.zero a ≡ o.zero
-  zero_times a = r.times_comm o.zero a ∙ times_zero r a
-
   -- the rule for b = 0 is no exception
   blend_linear : (t : Bool) (p b y : M) → (t ≡ true → b ≡ o.zero) → cond t p (o.plus p (o.times b y)) ≡ o.plus p (o.times b y)
-  blend_linear true p b y z = sym (ap (λ c. o.plus p (o.times c y)) (z refl) ∙ ap (o.plus p) (zero_times y) ∙ r.plus_zero p)
+  blend_linear true p b y z = sym (ap (λ c. o.plus p (o.times c y)) (z refl) ∙ ap (o.plus p) (zero_times r y) ∙ r.plus_zero p)
   blend_linear false p b y z = refl
 
   none_linear : (t : Bool) (b y : M) → (t ≡ true → b ≡ o.zero) → cond t o.zero (o.times b y) ≡ o.times b y
-  none_linear true b y z = sym (ap (λ c. o.times c y) (z refl) ∙ zero_times y)
+  none_linear true b y z = sym (ap (λ c. o.times c y) (z refl) ∙ zero_times r y)
   none_linear false b y z = refl
 
   -- b·y may be added first or last

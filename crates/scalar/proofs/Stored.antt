@@ -1,6 +1,6 @@
 -- From a stored value to what it means at its place in a memory. Assumes nothing.
 use Rattle.std.proofs.Common.{◌≡◌, ℕ, ◌+◌, ◌-◌, ◌<◌, ◌≤◌, List, [], ◌∷◌, length, get_or, take, drop, sym, ap, ◌∙◌, arith, rules}
-use Rattle.std.proofs.lemmas.List.{get_or-map, places}
+use Rattle.std.proofs.lemmas.List.{get_or-map, length-drop, drop_more, places}
 use Rattle.scalar.specs.Ops.{Ops}
 use Rattle.scalar.specs.Sums.{at}
 
@@ -27,3 +27,12 @@ module _ {S M : Type 0} (means : S → M) (o : Ops M) where
   at_part a k i xs fits below =
       let long : length (take ((a + k) - a) (drop a xs)) ≡ k = search (rules, places) in
       at_same (take ((a + k) - a) (drop a xs)) xs i (a + i) (omega arith) (omega arith) (λ d. search (rules, places))
+
+  -- the next entry of a slice that is read in order, and what is left then
+  pub next_is : (xs left rest : List S) (i : ℕ) (v : S) → left ≡ drop i xs → left ≡ v ∷ rest → (rest ≡ drop (i + 1) xs) × (at means o xs i ≡ means v) × (i < length xs)
+  next_is xs left rest i v p q =
+      let e : drop i xs ≡ v ∷ rest = sym p ∙ q in
+      let h : i < length xs = omega (arith, ap length e, length-drop i xs) in
+      let f = drop_more xs i v h in
+      let here : v ≡ get_or xs i v = cc in
+      (cc, at_read xs i v h here, h)

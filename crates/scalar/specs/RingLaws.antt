@@ -28,3 +28,6 @@ module _ {M : Type 0} {o : Ops M} (r : Ring o) where
   times_zero a =
       plus_cancel (o.times a o.zero) (o.times a o.zero)
       (sym (r.times_plus a o.zero o.zero) ∙ ap (o.times a) (r.plus_zero o.zero))
+
+  pub zero_times : (a : M) → o.times o.zero a ≡ o.zero
+  zero_times a = r.times_comm o.zero a ∙ times_zero a

@@ -44,12 +44,6 @@ cell_from t b c l i =
     let e : (b * t.cols + (c + l)) * t.rows ≡ (b * t.cols + c + l) * t.rows = ap (λ q. q * t.rows) (omega arith) in
     omega (arith, add-mul (b * t.cols + c) l t.rows)
 
--- a place belongs to one cell
-pub record Same (b j i b' j' i' : ℕ) : Type 0 where
-  pub lane : b ≡ b'
-  pub col : j ≡ j'
-  pub row : i ≡ i'
-
 -- a cell outside a lane's band lies before its run or after
 pub band_apart : (t : TableShape) (l c n b j i : ℕ) → c + n ≤ t.cols → j < t.cols → i < t.rows → (LaneBand l c n b j i → ⊥)
     → (cell t b j i < start t l c) ⊎ (start t l c + n * t.rows ≤ cell t b j i)

@@ -4,7 +4,7 @@ use Rattle.std.proofs.lemmas.Bool.{or_from, or_left, not_from_true, le-ltb, lt-l
 use Rattle.shape.specs.Shapes.{no_lanes, too_large, misfit, no_column, cells, Fits, Lawful}
 use Rattle.shape.specs.Lanes.{lane_for, no_broadcast}
 use Rattle.shape.specs.Refusals.{first_of}
-use Rattle.shape.specs.Operands.{shape_tests, pair_tests, table_tests, TablesLawful}
+use Rattle.shape.specs.Operands.{shape_tests, column_tests, pair_tests, table_tests, TablesLawful}
 use Rattle.shape.specs.declared.operand.TableShape.{TableShape}
 use Rattle.shape.specs.declared.operand.Column.{Column}
 use Rattle.shape.proofs.Verdicts.{Clear}
@@ -38,34 +38,50 @@ own_lane b s n e h = ap (λ z. b * z / n) e ∙ mul-div_cancel b h
 pub shape_passes : (t : TableShape) (len : ℕ) → Fits t len → first_of (shape_tests t len) ≡ 0
 shape_passes t len h = none_fits (shape_tests t len) (some_lanes t len h, (not_large t len h, (fit t len h, tt)))
 
+-- what a call on a shape tests first
+pub record Sound (t : TableShape) (len : ℕ) : Type 0 where
+  pub lanes : no_lanes t ≡ false
+  pub large : too_large t ≡ false
+  pub size : misfit t len ≡ false
+
+pub sound : (t : TableShape) (len : ℕ) → Fits t len → Sound t len
+sound t len f = record { lanes = some_lanes t len f; large = not_large t len f; size = fit t len f }
+
+-- and on two
+pub record BothSound (x : TableShape) (xl : ℕ) (y : TableShape) (yl : ℕ) : Type 0 where
+  pub lanes : no_lanes x || no_lanes y ≡ false
+  pub large : too_large x || too_large y ≡ false
+  pub size : misfit x xl || misfit y yl ≡ false
+
+pub both_sound : (x : TableShape) (xl : ℕ) (y : TableShape) (yl : ℕ) → Fits x xl → Fits y yl → BothSound x xl y yl
+both_sound x xl y yl fx fy =
+    let p = sound x xl fx in
+    let q = sound y yl fy in
+    record {
+      lanes = or_from (no_lanes x) (no_lanes y) p.lanes q.lanes;
+      large = or_from (too_large x) (too_large y) p.large q.large;
+      size = or_from (misfit x xl) (misfit y yl) p.size q.size;
+    }
+
+pub column_there : (v : Column) (len : ℕ) → Lawful v len → no_column v ≡ false
+column_there v len l = lt-leb v.of.cols v.col l.within
+
+pub columns_there : (x : Column) (xl : ℕ) (y : Column) (yl : ℕ) → Lawful x xl → Lawful y yl → no_column x || no_column y ≡ false
+columns_there x xl y yl lx ly = or_from (no_column x) (no_column y) (column_there x xl lx) (column_there y yl ly)
+
+pub column_passes : (v : Column) (len : ℕ) → Lawful v len → first_of (column_tests v len) ≡ 0
+column_passes v len l =
+    let s = sound v.of len l.fits in
+    none_fits (column_tests v len) (s.lanes, (s.large, (s.size, (column_there v len l, tt))))
+
 pub tables_pass : (x : TableShape) (xl : ℕ) (y : TableShape) (yl : ℕ) → TablesLawful x xl y yl → first_of (table_tests x xl y yl) ≡ 0
-tables_pass x xl y yl h = none_fits (table_tests x xl y yl) (
-  or_from (no_lanes x) (no_lanes y) (some_lanes x xl h.source) (some_lanes y yl h.target),
-  (
-    or_from (too_large x) (too_large y) (not_large x xl h.source) (not_large y yl h.target),
-    (
-      or_from (misfit x xl) (misfit y yl) (fit x xl h.source) (fit y yl h.target),
-      (
-        or_from (not (eqb x.rows y.rows)) (not (eqb x.cols y.cols)) (same_counts x.rows y.rows h.rows) (same_counts x.cols y.cols h.cols),
-        (h.lanes, tt),
-      ),
-    ),
-  ),
-)
+tables_pass x xl y yl h =
+    let two = both_sound x xl y yl h.source h.target in
+    let counts = or_from (not (eqb x.rows y.rows)) (not (eqb x.cols y.cols)) (same_counts x.rows y.rows h.rows) (same_counts x.cols y.cols h.cols) in
+    none_fits (table_tests x xl y yl) (two.lanes, (two.large, (two.size, (counts, (h.lanes, tt)))))
 
-module _ (x : Column) (xl : ℕ) (y : Column) (yl : ℕ) (source : Lawful x xl) (target : Lawful y yl) where
-  pub some_lanes₂ : no_lanes x.of || no_lanes y.of ≡ false
-  some_lanes₂ = or_from (no_lanes x.of) (no_lanes y.of) (some_lanes x.of xl source.fits) (some_lanes y.of yl target.fits)
-
-  pub not_large₂ : too_large x.of || too_large y.of ≡ false
-  not_large₂ = or_from (too_large x.of) (too_large y.of) (not_large x.of xl source.fits) (not_large y.of yl target.fits)
-
-  pub fit₂ : misfit x.of xl || misfit y.of yl ≡ false
-  fit₂ = or_from (misfit x.of xl) (misfit y.of yl) (fit x.of xl source.fits) (fit y.of yl target.fits)
-
-  pub columns₂ : no_column x || no_column y ≡ false
-  columns₂ = or_from (no_column x) (no_column y) (lt-leb x.of.cols x.col source.within) (lt-leb y.of.cols y.col target.within)
-
-  pub pair_passes : x.of.rows ≡ y.of.rows → x.of.lanes ≡ y.of.lanes → first_of (pair_tests x xl y yl) ≡ 0
-  pair_passes rows lanes =
-      none_fits (pair_tests x xl y yl) (some_lanes₂, (not_large₂, (fit₂, (columns₂, (same_counts x.of.rows y.of.rows rows, (same_lanes x.of.lanes y.of.lanes lanes, tt))))))
+pub pair_passes : (x : Column) (xl : ℕ) (y : Column) (yl : ℕ) → Lawful x xl → Lawful y yl → x.of.rows ≡ y.of.rows → x.of.lanes ≡ y.of.lanes → first_of (pair_tests x xl y yl) ≡ 0
+pair_passes x xl y yl source target rows lanes =
+    let two = both_sound x.of xl y.of yl source.fits target.fits in
+    none_fits (pair_tests x xl y yl)
+    (two.lanes, (two.large, (two.size, (columns_there x xl y yl source target, (same_counts x.of.rows y.of.rows rows, (same_lanes x.of.lanes y.of.lanes lanes, tt))))))

@@ -4,14 +4,14 @@ use Rattle.std.proofs.lemmas.Bool.Decides.{nat_tests}
 use Rattle.scalar.specs.Ops.{Ops, Ring}
 use Rattle.scalar.specs.Sums.{sum, sum_from}
 use Rattle.scalar.proofs.SumLaws.{sum_same}
-use Rattle.scalar.specs.RingLaws.{times_zero}
+use Rattle.scalar.specs.RingLaws.{times_zero, zero_times}
 use Rattle.vector.specs.Rows.{blend}
 use Rattle.product.specs.Rows.{summed, spread}
 use Rattle.product.proofs.RowLaws.{summed_linear}
 use Rattle.differences.specs.Rows.{multiplied}
 use Rattle.differences.proofs.RowLaws.{multiplied_in}
 use Rattle.steps.specs.Actions.{total}
-use Rattle.steps.proofs.Sums.{times_plus, zero_times, one_times, sum_times, times_sum, sum_swap, sum_gain, sum_below, ring, times_assoc, times_comm}
+use Rattle.steps.proofs.Sums.{times_plus, one_times, sum_times, times_sum, sum_swap, sum_gain, sum_below, ring, times_assoc, times_comm}
 
 module _ {M : Type 0} (o : Ops M) where
   -- where b is zero, what was there is not read

@@ -4,7 +4,7 @@ use Rattle.scalar.specs.Ops.{Ops, Ring}
 use Rattle.scalar.specs.Sums.{sum, sum_from}
 use Rattle.scalar.proofs.SumLaws.{sum_same}
 use Rattle.scalar.specs.RingLaws as law
-use Rattle.scalar.specs.RingLaws.{times_zero, plus_swap}
+use Rattle.scalar.specs.RingLaws.{times_zero, zero_times, plus_swap}
 
 module _ {M : Type 0} {o : Ops M} (𝓡 : Ring o) where
   infixl 60 ◌⊕◌
@@ -41,9 +41,6 @@ module _ {M : Type 0} {o : Ops M} (𝓡 : Ring o) where
   pub plus_times : (a b c : M) → (a ⊕ b) ⊗ c ≡ a ⊗ c ⊕ b ⊗ c
   plus_times = law.plus_times 𝓡
 
-  pub zero_times : (a : M) → o.zero ⊗ a ≡ o.zero
-  zero_times a = times_comm o.zero a ∙ times_zero 𝓡 a
-
   pub one_times : (a : M) → o.one ⊗ a ≡ a
   one_times a = times_comm o.one a ∙ 𝓡.times_one a
 
@@ -60,7 +57,7 @@ module _ {M : Type 0} {o : Ops M} (𝓡 : Ring o) where
   times_minus a b =
       cancel (a ⊗ o.minus b) (o.minus a ⊗ b) (a ⊗ b)
       (plus_comm (a ⊗ o.minus b) (a ⊗ b) ∙ sym (times_plus a b (o.minus b)) ∙ ap (λ x. a ⊗ x) (𝓡.plus_minus b) ∙ times_zero 𝓡 a
-      ∙ sym (plus_comm (o.minus a ⊗ b) (a ⊗ b) ∙ sym (plus_times a (o.minus a) b) ∙ ap (λ x. x ⊗ b) (𝓡.plus_minus a) ∙ zero_times b))
+      ∙ sym (plus_comm (o.minus a ⊗ b) (a ⊗ b) ∙ sym (plus_times a (o.minus a) b) ∙ ap (λ x. x ⊗ b) (𝓡.plus_minus a) ∙ zero_times 𝓡 b))
 
   -- ---- sums
 
@@ -77,7 +74,7 @@ module _ {M : Type 0} {o : Ops M} (𝓡 : Ring o) where
   sum_zero (suc n) = 𝓡.plus_zero (sum o (λ k. o.zero) n) ∙ sum_zero n
 
   pub sum_times : (f : ℕ → M) (a : M) (n : ℕ) → sum o f n ⊗ a ≡ sum o (λ k. f k ⊗ a) n
-  sum_times f a zero = zero_times a
+  sum_times f a zero = zero_times 𝓡 a
   sum_times f a (suc n) = plus_times (sum o f n) (f n) a ∙ ap (λ x. x ⊕ f n ⊗ a) (sum_times f a n)
 
   pub times_sum : (f : ℕ → M) (a : M) (n : ℕ) → a ⊗ sum o f n ≡ sum o (λ k. a ⊗ f k) n

@@ -5,12 +5,12 @@ use Rattle.std.proofs.lemmas.Bool.Decides.{nat_tests}
 use Rattle.scalar.specs.Ops.{Ops, Ring}
 use Rattle.scalar.specs.Sums.{sum}
 use Rattle.scalar.proofs.SumLaws.{sum_same}
-use Rattle.scalar.specs.RingLaws.{zero_plus, times_zero}
+use Rattle.scalar.specs.RingLaws.{zero_plus, times_zero, zero_times}
 use Rattle.differences.specs.Rows.{updated, scanned, transposed, multiplied}
 use Rattle.differences.proofs.RowLaws.{updated_in, updated_last}
 use Rattle.differences.proofs.TransposeLaws.{transposed_sums, transposed_negated, transposed_cleared}
 use Rattle.steps.specs.Actions.{total}
-use Rattle.steps.proofs.Sums.{plus_assoc, times_plus, plus_times, zero_times, times_minus, sum_below, sorts, ring}
+use Rattle.steps.proofs.Sums.{plus_assoc, times_plus, plus_times, times_minus, sum_below, sorts, ring}
 use Rattle.steps.proofs.Products.{multiplied_past, total_sum}
 
 module _ {M : Type 0} (o : Ops M) where

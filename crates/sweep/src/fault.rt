@@ -13,7 +13,7 @@ pub struct StepFault {
 }
 
 /// A step's answer without its place.
-pub(crate) fn without_place(taken: Result<(), StepFault>) -> Result<(), Refusal>
+pub fn without_place(taken: Result<(), StepFault>) -> Result<(), Refusal>
     ensures { answer result ≡ answered taken }
 {
     taken.map_err(|fault| fault.refusal)

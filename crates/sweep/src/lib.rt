@@ -6,6 +6,6 @@ pub mod fault;
 pub mod script;
 pub mod sweep;
 
-pub use fault::StepFault;
+pub use fault::{StepFault, without_place};
 pub use script::{laws_of_runs, run_script};
 pub use sweep::{Sweep, Turned};

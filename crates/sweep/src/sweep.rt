@@ -22,15 +22,15 @@ use state::{Parts, Script};
 /// A sweep forward: its shape, and how many steps of the script were taken.
 #[derive(Drop)]
 pub struct Sweep {
-    pub shape: TableShape,
-    pub taken: usize,
+    pub(crate) shape: TableShape,
+    pub(crate) taken: usize,
 }
 
 /// A sweep that has turned: how many of the steps taken are not yet carried back.
 #[derive(Drop)]
 pub struct Turned {
-    pub shape: TableShape,
-    pub left: usize,
+    pub(crate) shape: TableShape,
+    pub(crate) left: usize,
 }
 
 /// The tests before the next step is taken, and what acceptance tells.
@@ -119,6 +119,13 @@ impl Sweep {
 }
 
 impl Turned {
+    /// How many steps are still to carry back.
+    pub fn left(&self) -> usize
+        ensures { result ≡ self.now.left }
+    {
+        self.left
+    }
+
     /// The latest step not yet carried, back on the weights E, p and q, with a vector w for sums.
     ///
     /// Refuses 3 where a memory does not hold its shape or the work memory has fewer than eight

@@ -1,9 +1,9 @@
 use Rattle.std.proofs.Common.{◌≡◌, length, sym, ◌∙◌, ap₂, arith}
 use Rattle.std.proofs.lemmas.List.{length_push}
 use Rattle.scalar.specs.Sums.{at}
+use Rattle.scalar.proofs.Stored.{next_is}
 use Rattle.scalar.proofs.SumLaws.{sum_next}
 use Rattle.norm.specs.Norms.{weighted}
-use Rattle.norm.proofs.Lent.{next_is}
 use Rattle.norm.proofs.norms.norm_run.Goals as goal
 
 pub loop-x-preserved : goal.loop-x-preserved

@@ -2,7 +2,7 @@ use Rattle.std.proofs.Common.{◌≡◌, true, false, pos, sym, refl, ap, ◌∙
 use Rattle.std.proofs.lemmas.Int.{to_z_pos}
 use Rattle.scalar.specs.Sums.{at}
 use Rattle.norm.specs.Roots.{fraction, replaces}
-use Rattle.norm.proofs.Lent.{next_is}
+use Rattle.scalar.proofs.Stored.{next_is}
 use Rattle.norm.proofs.Signs.{says_better, says_same}
 use Rattle.norm.proofs.roots.root_run.Goals as goal
 
