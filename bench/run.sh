@@ -21,7 +21,9 @@ REFERENCE_BLAS=$(dpkg -L libblas3 | grep '/libblas\.so\.3$' | head -n 1)
 OPENBLAS=$(dpkg -L libopenblas0-serial | grep '/libopenblas\.so\.0$' | head -n 1)
 version() { dpkg-query -W -f '${Version}' "$1"; }
 processor=$(sed -n 's/^model name[^:]*: //p' /proc/cpuinfo | head -n 1)
-ABOUT="$(date -u +%Y-%m-%d), $processor, $(rustc --version), OpenBLAS $(version libopenblas0-serial) on one thread, reference BLAS $(version libblas3)."
+# Runnable processes beside processors: on a machine that is not idle, times are longer and less even.
+load="$(cut -d ' ' -f 1 /proc/loadavg) processes running or waiting on $(nproc) processors as it began"
+ABOUT="$(date -u +%Y-%m-%d), $processor, $load, $(rustc --version), OpenBLAS $(version libopenblas0-serial) on one thread, reference BLAS $(version libblas3)."
 export REFERENCE_BLAS OPENBLAS ABOUT
 case ${1:-} in
     --write) mkdir -p ../docs && exec target/release/bench ../docs/BENCHMARKS.md ;;

@@ -1,7 +1,4 @@
-/* The worked figures through the C interface. From the repository's root:
- *
- *   mkdir -p target && (cd crates/capi && rt lib) && cc -Iinclude examples/worked.c crates/capi/out/libcapi.a -o target/worked && target/worked
- */
+/* The worked figures through the C interface: examples/run.sh c builds and runs this file. */
 #include "konsjift.h"
 #include <stdio.h>
 

@@ -1,6 +1,4 @@
-//! The worked figures through the Rust declarations. From the repository's root:
-//!
-//!   mkdir -p target && (cd crates/capi && rt lib) && rustc -O examples/worked.rs -C link-arg=crates/capi/out/libcapi.a -o target/worked && target/worked
+//! The worked figures through the Rust declarations: examples/run.sh rust builds and runs this file.
 
 #[path = "../bindings/rust/konsjift.rs"]
 mod konsjift;

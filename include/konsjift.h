@@ -44,10 +44,10 @@
  *
  * WHAT THE CALLER OWES
  *
- * A pointer reaches as many scalars as its count says, aligned for their type; it may be null
- * where the count is 0. Pointers to results are never null. What a call writes (destination, work
- * memory, results) overlaps nothing else that it is handed. Floating-point arithmetic rounds to
- * nearest, ties to even, and keeps subnormal numbers, as a C program starts.
+ * A pointer is not null, is aligned for its type, and reaches as many scalars as its count says:
+ * where the count is 0, any such pointer will do. What a call writes (destination, work memory,
+ * results) overlaps nothing else that it is handed. Floating-point arithmetic rounds to nearest,
+ * ties to even, and keeps subnormal numbers, as a C program starts.
  *
  * The calls keep nothing between them, allocate nothing and do not print: they may be made from
  * several threads on memory that is not shared.

@@ -3,7 +3,9 @@ ghost use Rattle.std.specs.Prelude.{◌≡◌, ℕ, ◌+◌, ◌-◌, ◌*◌, �
 ghost use Rattle.scalar.specs.Ops.{Ops};
 ghost use Rattle.shape.specs.Shapes.{Fits};
 ghost use Rattle.differences.specs.Rows.{number};
-ghost use Rattle.differences.specs.MulCols.{Multiplied};
+ghost use Rattle.differences.specs.Matrices.{sized};
+ghost use Rattle.differences.specs.MulCols.{MulColsLawful, Multiplied};
+ghost use Rattle.differences.specs.declared.matrix.Entries.TheVariants.{ByColumns};
 ghost use Rattle.state.specs.Memory.{memory, vector_of};
 ghost use Rattle.state.specs.Reach.{ColumnsKept};
 ghost use Rattle.steps.specs.declared.kind.Kind.TheVariants.{Update, Cols, SumCol};
@@ -48,11 +50,7 @@ fn multiply_transposed<S: Scalar>(
     numbers: &[S],
     work: &mut [S],
 )
-    requires table { Fits t (length es.old) }
-    requires within { k ≤ t.cols }
-    requires few { k ≤ 8 }
-    requires numbers { length numbers.now ≡ k * k }
-    requires room { 8 ≤ length work.old }
+    requires { MulColsLawful t (length es.old) (sized k ByColumns) (length numbers.now) (length work.old) }
     ensures { Multiplied S.means S.ops t k (λ j l. number S.ops k (map S.means numbers.now) l j) es.old es.new }
 {
     let _ = mul_cols_by_transpose(t, es, k, numbers, work);
@@ -66,11 +64,7 @@ pub(crate) fn multiply_back<S: Scalar>(
     numbers: &[S],
     work: &mut [S],
 )
-    requires table { Fits t (length es.old) }
-    requires within { k ≤ t.cols }
-    requires few { k ≤ 8 }
-    requires numbers { length numbers.now ≡ k * k }
-    requires room { 8 ≤ length work.old }
+    requires { MulColsLawful t (length es.old) (sized k ByColumns) (length numbers.now) (length work.old) }
     ensures back { (ps qs : List S) → BackBy S.means S.ops t (Cols k) (map S.means numbers.now) [] (memory es.old ps qs) (memory es.new ps qs) }
     ensures kept { ColumnsKept t 0 k es.old es.new }
 {

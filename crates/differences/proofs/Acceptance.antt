@@ -1,7 +1,7 @@
 -- Lawful operands of the update's transpose pass the tests of the sum that it makes. Assumes nothing.
 use Rattle.std.proofs.Common.{◌≡◌, ℕ, ◌+◌, ◌-◌, ltb, eq-eqb, arith}
 use Rattle.std.proofs.lemmas.Bool.{or_from, le-ltb, lt-leb, not_from_true}
-use Rattle.shape.specs.Shapes.{no_lanes, too_large, misfit, no_column, Fits}
+use Rattle.shape.specs.Shapes.{no_lanes, too_large, misfit, no_column}
 use Rattle.shape.specs.Refusals.{first_of}
 use Rattle.shape.specs.declared.operand.Column.{Column}
 use Rattle.shape.specs.declared.operand.TableShape.{TableShape}

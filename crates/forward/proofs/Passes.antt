@@ -1,12 +1,11 @@
 -- Lawful operands of equal rows and lanes pass the tests of the calls. Assumes nothing.
-use Rattle.std.proofs.Common.{◌≡◌, ℕ, ◌+◌, ◌-◌, ◌*◌, ◌<◌, ◌≤◌, false, ◌||◌, ltb, leb, List, length, refl, eq-eqb}
+use Rattle.std.proofs.Common.{◌≡◌, ℕ, ◌+◌, ◌-◌, ◌*◌, ◌<◌, ◌≤◌, false, ltb, leb, List, length, eq-eqb}
 use Rattle.std.proofs.lemmas.Bool.{or_from, le-ltb, lt-leb, not_from_true}
-use Rattle.shape.specs.Shapes.{no_lanes, too_large, misfit, no_column, Fits, Lawful}
+use Rattle.shape.specs.Shapes.{misfit, no_column, Fits, Lawful}
 use Rattle.shape.specs.Refusals.{first_of}
-use Rattle.shape.specs.Operands.{shape_tests, column_tests}
 use Rattle.shape.specs.declared.operand.TableShape.{TableShape}
 use Rattle.shape.specs.declared.operand.Column.{Column}
-use Rattle.shape.proofs.Passes.{none_fits, same_lanes, shape_passes, sound, both_sound, column_there, columns_there}
+use Rattle.shape.proofs.Passes.{none_fits, same_lanes, sound, both_sound, column_there, columns_there}
 use Rattle.index.specs.Indices.{outside}
 use Rattle.index.specs.Calls.{gather_tests, scatter_tests}
 use Rattle.product.specs.Tests.{gemv_cols_tests}

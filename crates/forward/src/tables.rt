@@ -2,6 +2,9 @@
 //! the calls do not refuse, and their answers tell nothing.
 ghost use Rattle.std.specs.Prelude.{◌≡◌, ◌+◌, ◌*◌, ◌<◌, ◌≤◌, List, [], ◌∷◌, map, length};
 ghost use Rattle.shape.specs.Shapes.{Fits};
+ghost use Rattle.differences.specs.Matrices.{sized};
+ghost use Rattle.differences.specs.MulCols.{MulColsLawful};
+ghost use Rattle.differences.specs.declared.matrix.Entries.TheVariants.{ByRows};
 ghost use Rattle.state.specs.Memory.{memory, vector_of};
 ghost use Rattle.state.specs.Reach.{ColumnsKept};
 ghost use Rattle.forward.specs.Forward.{Forward};
@@ -32,11 +35,7 @@ pub(crate) fn cols_step<S: Scalar>(
     numbers: &[S],
     work: &mut [S],
 )
-    requires table { Fits t (length ds.old) }
-    requires within { count ≤ t.cols }
-    requires few { count ≤ 8 }
-    requires numbers { length numbers.now ≡ count * count }
-    requires room { 8 ≤ length work.old }
+    requires { MulColsLawful t (length ds.old) (sized count ByRows) (length numbers.now) (length work.old) }
     ensures forward { (us vs : List S) → Forward S.means S.ops t (Cols count) (map S.means numbers.now) [] (memory ds.old us vs) (memory ds.new us vs) }
     ensures kept { ColumnsKept t 0 count ds.old ds.new }
 {

@@ -15,4 +15,4 @@ loop-x-preserved g c =
     let y = next_is s.means s.ops c.args.ys.now _ _ n c.in-Some.y.now so.y_left next.1 in
     let term : s.means c.mul.result ≡ s.ops.times (at s.means s.ops c.args.xs.now n) (at s.means s.ops c.args.ys.now n) = rw (x.1, y.1) c.mul.ensures in
     rw (length_push c.loop-x.yielded (c.in-Some.x, c.in-Some.y))
-    (record { within = omega (arith, x.2); x_left = x.0; y_left = y.0; so_far = c.add.ensures ∙ ap₂ s.ops.plus so.so_far term ∙ sym (sum_next s.ops _ _ n) })
+    (record { within = omega (arith, x.2); x_left = x.0; y_left = y.0; so_far = c.add-sum.ensures ∙ ap₂ s.ops.plus so.so_far term ∙ sym (sum_next s.ops _ _ n) })

@@ -13,8 +13,8 @@ returns-clause-forward g c = λ us vs b l.
     let n = c.args.count in
     let ds = c.args.ds.now in
     let ns = c.args.numbers.now in
-    let passes = mul_cols_passes t (length ds) n (length ns) (length c.args.work.now) c.requires.table c.requires.room c.requires.within c.requires.few c.requires.numbers in
-    let done = columns_multiplied s.means s.ops t n (number s.ops n (map s.means ns)) ds c.mul_cols_by.new.ts c.requires.table c.mul_cols_by.auto.ts
+    let passes = mul_cols_passes t (length ds) n (length ns) (length c.args.work.now) c.requires.fits c.requires.room c.requires.within c.requires.small.few c.requires.small.enough in
+    let done = columns_multiplied s.means s.ops t n (number s.ops n (map s.means ns)) ds c.mul_cols_by.new.ts c.requires.fits c.mul_cols_by.auto.ts
     ((on_ok c.mul_cols_by.result c.mul_cols_by.ensures.accepted) (c.mul_cols_by.ensures.verdict ∙ passes)) in
     record { table = λ j i h k. done b j i (record { lane = l; col = h; row = k }); first = λ i h. refl; second = λ i h. refl }
 
