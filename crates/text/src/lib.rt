@@ -1,0 +1,4 @@
+//! The text program: the lines that it writes.
+#![tactic(auto)]
+
+mod lines;
