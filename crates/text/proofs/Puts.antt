@@ -1,5 +1,5 @@
 -- One piece written after another. Assumes nothing.
-use Rattle.std.proofs.Common.{◌≡◌, ℕ, zero, suc, ◌+◌, ◌/◌, ◌%◌, ◌^◌, ◌<◌, ◌≤◌, List, [], ◌∷◌, ◌++◌, length, get_or, take, drop, set, codes, decimal, sym, refl, ap, ap₂, ◌∙◌, subst, append_assoc, append-nil, add-zero, add_assoc, zero-add, add-one, arith, length-append}
+use Rattle.std.proofs.Common.{◌≡◌, ℕ, zero, suc, ◌+◌, ◌-◌, ◌/◌, ◌%◌, ◌^◌, ◌<◌, ◌≤◌, List, [], ◌∷◌, ◌++◌, length, get_or, take, drop, set, codes, decimal, sym, refl, ap, ap₂, ◌∙◌, subst, append_assoc, append-nil, add-zero, add_assoc, zero-add, add-one, arith, length-append}
 use Rattle.std.proofs.Math.Seq.{paste}
 use Rattle.std.proofs.lemmas.List.{take_more, length-take-le, drop_more, take-append-drop}
 use Rattle.std.proofs.lemmas.List.Edits.{paste_none, paste_more, paste-paste, paste_all}
@@ -121,40 +121,24 @@ steps_room ns i h =
 
 -- ---- the lines of the lanes
 
-lanes_next : (b : ℕ) (xs ys : List ℕ) (i : ℕ) → i < length xs → length ys ≡ length xs
-    → lane_lines b (take (suc i) xs) (take (suc i) ys) ≡ lane_lines b (take i xs) (take i ys) ++ line (codes "lane") ((b + i) ∷ get_or xs i 0 ∷ get_or ys i 0 ∷ [])
-lanes_next b [] ys i h e = absurd (omega arith)
-lanes_next b (x ∷ xs) [] i h e = absurd (omega arith)
-lanes_next b (x ∷ xs) (y ∷ ys) zero h e = append-nil _ ∙ ap (λ j. line (codes "lane") (j ∷ x ∷ y ∷ [])) (sym (add-zero b))
-lanes_next b (x ∷ xs) (y ∷ ys) (suc i) h e =
-    let k : b + 1 + i ≡ b + suc i = omega arith in
-    let first = line (codes "lane") (b ∷ x ∷ y ∷ []) in
-    ap (λ t. first ++ t)
-    (lanes_next (b + 1) xs ys i (omega arith) (omega arith) ∙ ap (λ j. lane_lines (b + 1) (take i xs) (take i ys) ++ line (codes "lane") (j ∷ get_or xs i 0 ∷ get_or ys i 0 ∷ [])) k)
-    ∙ sym (append_assoc first (lane_lines (b + 1) (take i xs) (take i ys)) (line (codes "lane") ((b + suc i) ∷ get_or xs i 0 ∷ get_or ys i 0 ∷ [])))
-
-pub lanes_more : (xs ys : List ℕ) (i : ℕ) → i < length xs → length ys ≡ length xs
-    → lane_lines 0 (take (i + 1) xs) (take (i + 1) ys) ≡ lane_lines 0 (take i xs) (take i ys) ++ line (codes "lane") (i ∷ get_or xs i 0 ∷ get_or ys i 0 ∷ [])
-lanes_more xs ys i h e =
-    ap (λ j. lane_lines 0 (take j xs) (take j ys)) (add-one i) ∙ lanes_next 0 xs ys i h e
-    ∙ ap (λ j. lane_lines 0 (take i xs) (take i ys) ++ line (codes "lane") (j ∷ get_or xs i 0 ∷ get_or ys i 0 ∷ [])) (zero-add i)
+pub lanes_more : (n : ℕ) (f g : ℕ → ℕ) → lane_lines (n + 1) f g ≡ lane_lines n f g ++ line (codes "lane") (n ∷ f n ∷ g n ∷ [])
+lanes_more n f g = ap (λ m. lane_lines m f g) (add-one n)
 
 -- the first lanes take no more room than all of them
-lanes_front : (b : ℕ) (xs ys : List ℕ) (i : ℕ) → length (lane_lines b (take i xs) (take i ys)) ≤ length (lane_lines b xs ys)
-lanes_front b xs ys zero = omega arith
-lanes_front b [] ys (suc i) = omega arith
-lanes_front b (x ∷ xs) [] (suc i) = omega arith
-lanes_front b (x ∷ xs) (y ∷ ys) (suc i) =
-    let less = lanes_front (b + 1) xs ys i in
-    let p = length-append (line (codes "lane") (b ∷ x ∷ y ∷ [])) (lane_lines (b + 1) (take i xs) (take i ys)) in
-    let q = length-append (line (codes "lane") (b ∷ x ∷ y ∷ [])) (lane_lines (b + 1) xs ys) in
+lanes_front : (n m : ℕ) (f g : ℕ → ℕ) → length (lane_lines n f g) ≤ length (lane_lines (m + n) f g)
+lanes_front n zero f g = let e = ap (λ k. length (lane_lines k f g)) (zero-add n) in omega arith
+lanes_front n (suc m) f g =
+    let less = lanes_front n m f g in
+    let e : suc m + n ≡ suc (m + n) = omega arith in
+    let p = ap (λ k. length (lane_lines k f g)) e in
+    let q = length-append (lane_lines (m + n) f g) (line (codes "lane") ((m + n) ∷ f (m + n) ∷ g (m + n) ∷ [])) in
     omega arith
 
-pub lanes_room : (xs ys : List ℕ) (i : ℕ) → i < length xs → length ys ≡ length xs
-    → length (lane_lines 0 (take i xs) (take i ys)) + length (line (codes "lane") (i ∷ get_or xs i 0 ∷ get_or ys i 0 ∷ [])) ≤ length (lane_lines 0 xs ys)
-lanes_room xs ys i h e =
-    let next = line (codes "lane") (i ∷ get_or xs i 0 ∷ get_or ys i 0 ∷ []) in
-    let a = length-append (lane_lines 0 (take i xs) (take i ys)) next in
-    let b : length (lane_lines 0 (take (i + 1) xs) (take (i + 1) ys)) ≡ length (lane_lines 0 (take i xs) (take i ys) ++ next) = ap length (lanes_more xs ys i h e) in
-    let f = lanes_front 0 xs ys (i + 1) in
+pub lanes_room : (i n : ℕ) (f g : ℕ → ℕ) → i < n → length (lane_lines i f g) + length (line (codes "lane") (i ∷ f i ∷ g i ∷ [])) ≤ length (lane_lines n f g)
+lanes_room i n f g h =
+    let a = ap length (lanes_more i f g) in
+    let b = length-append (lane_lines i f g) (line (codes "lane") (i ∷ f i ∷ g i ∷ [])) in
+    let e : n - (i + 1) + (i + 1) ≡ n = omega arith in
+    let c = lanes_front (i + 1) (n - (i + 1)) f g in
+    let d = ap (λ k. length (lane_lines k f g)) e in
     omega arith

@@ -1,5 +1,5 @@
 -- The lines that are written. Assumes nothing.
-use Rattle.std.specs.Prelude.{◌≡◌, ℕ, ◌+◌, List, [], ◌∷◌, ◌++◌, length, take, drop, codes, decimal}
+use Rattle.std.specs.Prelude.{◌≡◌, ℕ, zero, suc, ◌+◌, List, [], ◌∷◌, ◌++◌, length, take, drop, codes, decimal}
 
 -- numbers in decimal, each after a tab (9)
 abbrev pub tabbed : List ℕ → List ℕ
@@ -19,11 +19,10 @@ abbrev pub step_lines : ℕ → List ℕ → List ℕ
 step_lines i [] = []
 step_lines i (n ∷ ns) = line (codes "step") (i ∷ n ∷ []) ++ step_lines (i + 1) ns
 
--- the lanes from b on, each with its pairings after the run forward and before it
-abbrev pub lane_lines : ℕ → List ℕ → List ℕ → List ℕ
-lane_lines b [] ys = []
-lane_lines b (x ∷ xs) [] = []
-lane_lines b (x ∷ xs) (y ∷ ys) = line (codes "lane") (b ∷ x ∷ y ∷ []) ++ lane_lines (b + 1) xs ys
+-- the first n lanes, each with its pairings f after the run forward and g before it
+abbrev pub lane_lines : ℕ → (ℕ → ℕ) → (ℕ → ℕ) → List ℕ
+lane_lines zero f g = []
+lane_lines (suc n) f g = lane_lines n f g ++ line (codes "lane") (n ∷ f n ∷ g n ∷ [])
 
 -- the bytes s stand in new from the place at on, up to the place here; all other bytes are those of old
 pub record Written (old new : List ℕ) (at : ℕ) (s : List ℕ) (here : ℕ) : Type 0 where

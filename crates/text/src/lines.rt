@@ -1,6 +1,6 @@
 //! Lines of a word and numbers, written into lent bytes from a place on. Each function answers the
 //! place past what it wrote.
-ghost use Rattle.std.specs.Prelude.{◌≡◌, ◌+◌, ◌≤◌, length, decimal};
+ghost use Rattle.std.specs.Prelude.{◌≡◌, ◌+◌, ◌≤◌, length, decimal, slice_index};
 ghost use Rattle.text.specs.Lines.{Written, line, fault_line, step_lines, lane_lines};
 
 /// A number in decimal.
@@ -65,8 +65,8 @@ pub(crate) fn put_steps(out: &mut [u8], at: usize, numbers: &[u8]) -> usize
 /// A line for each lane, with its two pairings.
 pub(crate) fn put_lanes(out: &mut [u8], at: usize, after: &[u64], before: &[u64]) -> usize
     requires lanes { length before.now ≡ length after.now }
-    requires room { at + length (lane_lines 0 after.now before.now) ≤ length out.old }
-    ensures { Written out.old out.new at (lane_lines 0 after.now before.now) result }
+    requires room { at + length (lane_lines (length after.now) (slice_index after.now) (slice_index before.now)) ≤ length out.old }
+    ensures { Written out.old out.new at (lane_lines (length after.now) (slice_index after.now) (slice_index before.now)) result }
 {
     let mut here = at;
     for (lane, end) in after.iter().enumerate() {
