@@ -2,6 +2,7 @@
 #![tactic(auto)]
 
 pub mod entry;
+pub mod rings;
 pub mod run;
 pub mod task;
 

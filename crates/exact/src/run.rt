@@ -6,7 +6,7 @@ ghost use Rattle.sweep.specs.Sweeps.{steps_of};
 ghost use Rattle.sweep.specs.Scripts.{run_tests};
 ghost use Rattle.exact.specs.Tasks.{stored_all, Ran, task_tests, Workable};
 
-use crate::entry::{Entry, fill};
+use crate::entry::{Entry, fill, number_all};
 use crate::task::Task;
 use pairing::pairings;
 use shape::Refusal;
@@ -15,7 +15,12 @@ use state::{Parts, Script};
 use sweep::run_script;
 
 /// The tests of a task and of the room for its answers and pairings, and what acceptance tells.
-pub(crate) fn check_task(task: Task, answers: usize, after: usize, before: usize) -> Result<(), Refusal>
+pub(crate) fn check_task(
+    task: Task,
+    answers: usize,
+    after: usize,
+    before: usize,
+) -> Result<(), Refusal>
     ensures verdict { answer result ≡ first_of (task_tests task.entry answers after before) }
     ensures lawful { OnOk result (Workable task.entry answers after before) }
 {
@@ -25,7 +30,10 @@ pub(crate) fn check_task(task: Task, answers: usize, after: usize, before: usize
     if answers != task.script.steps.len() || after != lanes || before != lanes {
         return Err(Refusal::Memory);
     }
-    if task.state.table.len() > 1024 || task.state.first.len() > 1024 || task.script.numbers.len() > 1024 {
+    if task.state.table.len() > 1024
+        || task.state.first.len() > 1024
+        || task.script.numbers.len() > 1024
+    {
         return Err(Refusal::TextLimit);
     }
     Ok(())
@@ -51,9 +59,11 @@ pub(crate) fn run_in_ring<S: Entry>(
     weights: &mut Parts<&mut [S]>,
     given: &mut Parts<&mut [S]>,
     work: &mut [S],
+    ends: &mut [S],
+    beginnings: &mut [S],
     answers: &mut [Result<(), Refusal>],
-    after: &mut [S],
-    before: &mut [S],
+    after: &mut [u64],
+    before: &mut [u64],
 )
     requires workable { Workable task (length answers.old) (length after.old) (length before.old) }
     requires numbers { length numbers.old ≡ length task.script.numbers.now }
@@ -61,7 +71,11 @@ pub(crate) fn run_in_ring<S: Entry>(
     requires weights { lengths (held weights.old) ≡ lengths (shown task.weights) }
     requires given { lengths (held given.old) ≡ lengths (shown task.weights) }
     requires work { 8 ≤ length work.old }
-    ensures { Ran S.ops S.means task.entry.shape (steps_of (λ v. S.means (S.stored v)) task.entry.script) (stored_all S.stored (shown task.entry.state)) (stored_all S.stored (shown task.entry.weights)) (map answer answers.new) after.new before.new }
+    requires ends { length ends.old ≡ task.shape.lanes }
+    requires beginnings { length beginnings.old ≡ task.shape.lanes }
+    ensures ran { Ran S.ops S.means task.entry.shape (steps_of (λ v. S.means (S.stored v)) task.entry.script) (stored_all S.stored (shown task.entry.state)) (stored_all S.stored (shown task.entry.weights)) (map answer answers.new) ends.new beginnings.new }
+    ensures after { after.new ≡ map S.meant ends.new }
+    ensures before { before.new ≡ map S.meant beginnings.new }
 {
     let t = task.shape;
     fill(numbers, task.script.numbers);
@@ -75,7 +89,9 @@ pub(crate) fn run_in_ring<S: Entry>(
     // What is called accepts, since the task passed its tests.
     let _ = run_script(t, script, state, weights, given.first, work, answers);
     fill_parts(given, task.weights);
-    let _ = pairings(t, state.shared(), given.shared(), after);
+    let _ = pairings(t, state.shared(), given.shared(), ends);
     fill_parts(state, task.state);
-    let _ = pairings(t, state.shared(), weights.shared(), before);
+    let _ = pairings(t, state.shared(), weights.shared(), beginnings);
+    number_all(after, ends);
+    number_all(before, beginnings);
 }

@@ -5,8 +5,8 @@ use Rattle.exact.proofs.Clears.{run_clear, pairing_clear}
 use Rattle.exact.proofs.Solving.{lengths_stored, steps_stored, ran_filled}
 use Rattle.exact.proofs.run.run_in_ring.Goals as goal
 
-pub returns : goal.returns
-returns g c =
+pub returns-clause-ran : goal.returns-clause-ran
+returns-clause-ran g c =
     let x = c.args.task in
     let t = x.shape in
     let means = g.S.Scalar.means in
@@ -23,8 +23,8 @@ returns g c =
     let l2 = ap lengths (c.shared-2.ensures ∙ c.fill_parts-3.ensures.filled) ∙ lengths_stored stored (shown x.weights) in
     let l3 = ap lengths (c.shared-3.ensures ∙ c.fill_parts-4.ensures.filled) ∙ lengths_stored stored (shown x.state) in
     let l4 = ap lengths c.shared-4.ensures ∙ c.run_script.ensures.lent_weights.sizes ∙ lw in
-    let after = c.pairings.ensures.verdict ∙ pairing_clear t _ _ _ (subst (Holds t) (sym l1) ok.state) (subst (Holds t) (sym l2) ok.weights) ok.after in
-    let before = c.pairings-2.ensures.verdict ∙ pairing_clear t _ _ _ (subst (Holds t) (sym l3) ok.state) (subst (Holds t) (sym l4) ok.weights) ok.before in
+    let after = c.pairings.ensures.verdict ∙ pairing_clear t _ _ _ (subst (Holds t) (sym l1) ok.state) (subst (Holds t) (sym l2) ok.weights) c.requires.ends in
+    let before = c.pairings-2.ensures.verdict ∙ pairing_clear t _ _ _ (subst (Holds t) (sym l3) ok.state) (subst (Holds t) (sym l4) ok.weights) c.requires.beginnings in
     ran_filled means _ t _ _ _ _ _ _ _ _ _ _ _ _ _ _ _ _
     (steps_stored means stored x.script c.fill.new.to c.fill.ensures)
     c.fill_parts.ensures.filled c.fill_parts-2.ensures.filled
