@@ -3,20 +3,19 @@ use Rattle.std.proofs.Common.{◌≡◌, ℕ, zero, suc, ◌+◌, ◌-◌, ◌<�
 use lib.Seq.{paste}
 use Rattle.std.proofs.lemmas.List.{length_push, take-append-le, get_or_push, take_all, take_rest}
 use Rattle.std.proofs.lemmas.List.Edits.{paste_none, paste_more}
-use Rattle.std.proofs.lemmas.Slice.{first_rest}
 use Rattle.std.specs.List.{between}
 use Rattle.lex.specs.Lines.{grown, fields, more, before}
 use Rattle.lex.specs.Numbers.{all, both}
 use Rattle.lex.specs.Fields.{FieldsRead}
-use Rattle.lex.proofs.Parts.{fields-cut}
+use Rattle.lex.proofs.Parts.{fields_cut, after_tab}
 
 abbrev ahead : {X : Type 0} → List X → Option (List X) → Option (List X)
 ahead xs None = None
 ahead xs (Some ys) = Some (xs ++ ys)
 
-ahead-both : {X : Type 0} (xs : List X) (x : X) (o : Option (List X)) → ahead xs (both (Some x) o) ≡ ahead (xs ++ x ∷ []) o
-ahead-both xs x None = refl
-ahead-both xs x (Some ys) = ap Some (sym (append_assoc xs (x ∷ []) ys))
+ahead_both : {X : Type 0} (xs : List X) (x : X) (o : Option (List X)) → ahead xs (both (Some x) o) ≡ ahead (xs ++ x ∷ []) o
+ahead_both xs x None = refl
+ahead_both xs x (Some ys) = ap Some (sym (append_assoc xs (x ∷ []) ys))
 
 pub record ReadSoFar {X : Type 0} (rule : List ℕ → Option X) (fs : List (List ℕ)) (most : ℕ) (old new : List X) (at n : ℕ) (left : List ℕ) : Type 0 where
   pub got : List X
@@ -26,16 +25,16 @@ pub record ReadSoFar {X : Type 0} (rule : List ℕ → Option X) (fs : List (Lis
   pub stored : at + n ≤ length old → new ≡ paste old at got n
 
 module _ {X : Type 0} (rule : List ℕ → Option X) (fs : List (List ℕ)) (most : ℕ) (old : List X) (at : ℕ) where
-  ahead-nil : (o : Option (List X)) → o ≡ ahead [] o
-  ahead-nil None = refl
-  ahead-nil (Some ys) = refl
+  ahead_nil : (o : Option (List X)) → o ≡ ahead [] o
+  ahead_nil None = refl
+  ahead_nil (Some ys) = refl
 
   pub start : (left : List ℕ) → fs ≡ more left → ReadSoFar rule fs most old old at 0 left
   start left e =
       let z : most - 0 ≡ most = omega arith in
       record {
         got = [];
-        are = ap (λ (gs : List (List ℕ)). all rule (take most gs)) e ∙ ahead-nil _ ∙ ap (λ (m : ℕ). ahead [] (all rule (take m (more left)))) (sym z);
+        are = ap (λ (gs : List (List ℕ)). all rule (take most gs)) e ∙ ahead_nil _ ∙ ap (λ (m : ℕ). ahead [] (all rule (take m (more left)))) (sym z);
         many = refl;
         others = ap (λ (m : ℕ). drop m (more left)) z ∙ ap (drop most) (sym e);
         stored = λ h. paste_none old at [];
@@ -46,7 +45,7 @@ module _ {X : Type 0} (rule : List ℕ → Option X) (fs : List (List ℕ)) (mos
   front n left t lt e =
       let m : most - n ≡ suc (most - (n + 1)) = omega arith in
       ap (λ (gs : List ℕ). all rule (take (most - n) (more gs))) e
-      ∙ ap (λ (gs : List (List ℕ)). all rule (take (most - n) gs)) (fields-cut t)
+      ∙ ap (λ (gs : List (List ℕ)). all rule (take (most - n) gs)) (fields_cut t)
       ∙ ap (λ (k : ℕ). all rule (take k (take (before 9 t) t ∷ more (drop (before 9 t) t)))) m
 
   pub bad : (new : List X) (n : ℕ) (left t : List ℕ) → ReadSoFar rule fs most old new at n left → n < most → left ≡ 9 ∷ t → rule (take (before 9 t) t) ≡ None → all rule (take most fs) ≡ None
@@ -68,9 +67,9 @@ module _ {X : Type 0} (rule : List ℕ → Option X) (fs : List (List ℕ)) (mos
       let m : most - n ≡ suc (most - (n + 1)) = omega arith in
       record {
         got = s.got ++ x ∷ [];
-        are = s.are ∙ ap (ahead s.got) (front n left t lt e ∙ ap (λ (o : Option X). both o (all rule (take (most - (n + 1)) (more (drop (before 9 t) t))))) r) ∙ ahead-both s.got x _;
+        are = s.are ∙ ap (ahead s.got) (front n left t lt e ∙ ap (λ (o : Option X). both o (all rule (take (most - (n + 1)) (more (drop (before 9 t) t))))) r) ∙ ahead_both s.got x _;
         many = ap (λ (k : ℕ). k + 1) s.many ∙ sym (length_push s.got x);
-        others = ap (λ (k : ℕ). drop k (take (before 9 t) t ∷ more (drop (before 9 t) t))) (sym m) ∙ ap (drop (most - n)) (sym (fields-cut t)) ∙ ap (λ (gs : List ℕ). drop (most - n) (more gs)) (sym e) ∙ s.others;
+        others = ap (λ (k : ℕ). drop k (take (before 9 t) t ∷ more (drop (before 9 t) t))) (sym m) ∙ ap (drop (most - n)) (sym (fields_cut t)) ∙ ap (λ (gs : List ℕ). drop (most - n) (more gs)) (sym e) ∙ s.others;
         stored = λ h.
             let lt' : at + n < length old = omega arith in
             let le : at + n ≤ length old = omega arith in
@@ -79,13 +78,13 @@ module _ {X : Type 0} (rule : List ℕ → Option X) (fs : List (List ℕ)) (mos
             w lt' ∙ ap (λ (ys : List X). set ys (at + n) x) o ∙ laid n s.got x l lt';
       }
 
-  take-nil : (m : ℕ) → take {A = List ℕ} m [] ≡ []
-  take-nil zero = refl
-  take-nil (suc m) = refl
+  take_nil : (m : ℕ) → take {A = List ℕ} m [] ≡ []
+  take_nil zero = refl
+  take_nil (suc m) = refl
 
-  drop-nil : (m : ℕ) → drop {A = List ℕ} m [] ≡ []
-  drop-nil zero = refl
-  drop-nil (suc m) = refl
+  drop_nil : (m : ℕ) → drop {A = List ℕ} m [] ≡ []
+  drop_nil zero = refl
+  drop_nil (suc m) = refl
 
   pub done : (new : List X) (n : ℕ) (left : List ℕ) → ReadSoFar rule fs most old new at n left → most ≤ n → n ≤ most → FieldsRead rule fs most old new at n left
   done new n left s h h' =
@@ -102,14 +101,11 @@ module _ {X : Type 0} (rule : List ℕ → Option X) (fs : List (List ℕ)) (mos
   empty new n left s e =
       record {
         got = s.got;
-        are = s.are ∙ ap (λ (gs : List (List ℕ)). ahead s.got (all rule (take (most - n) gs))) e ∙ ap (λ (gs : List (List ℕ)). ahead s.got (all rule gs)) (take-nil (most - n)) ∙ ap Some (append-nil s.got);
+        are = s.are ∙ ap (λ (gs : List (List ℕ)). ahead s.got (all rule (take (most - n) gs))) e ∙ ap (λ (gs : List (List ℕ)). ahead s.got (all rule gs)) (take_nil (most - n)) ∙ ap Some (append-nil s.got);
         many = s.many;
-        others = e ∙ sym (drop-nil (most - n)) ∙ ap (drop (most - n)) (sym e) ∙ s.others;
+        others = e ∙ sym (drop_nil (most - n)) ∙ ap (drop (most - n)) (sym e) ∙ s.others;
         stored = s.stored;
       }
-
-  after_tab : (left : List ℕ) → 0 < length left → get_or left 0 0 ≡ 9 → left ≡ 9 ∷ between 1 (length left) left
-  after_tab left h m = first_rest left 0 h ∙ ap (λ (v : ℕ). v ∷ between 1 (length left) left) m
 
   -- the same over what the code holds: the bytes after the tab, and the length of the field there
   pub bad_at : (new : List X) (n : ℕ) (left : List ℕ) (k : ℕ) → ReadSoFar rule fs most old new at n left → n < most → 0 < length left → get_or left 0 0 ≡ 9 → k ≡ before 9 (between 1 (length left) left)
@@ -126,25 +122,25 @@ module _ {X : Type 0} (rule : List ℕ → Option X) (fs : List (List ℕ)) (mos
 
 -- ---- fields are no more than bytes
 
-grown-long : (b m : ℕ) (ps : List (List ℕ)) → length ps ≤ m + 1 → length (grown b ps) ≤ m + 1
-grown-long b m [] h = omega arith
-grown-long b m (p ∷ ps) h = h
+grown_long : (b m : ℕ) (ps : List (List ℕ)) → length ps ≤ m + 1 → length (grown b ps) ≤ m + 1
+grown_long b m [] h = omega arith
+grown_long b m (p ∷ ps) h = h
 
-fields-long : (t : List ℕ) → length (fields t) ≤ length t + 1
-fields-long [] = omega arith
-fields-long (b ∷ bs) =
-    let ih = fields-long bs in
-    elim (eqb b 9) as (λ y. length (cond y ([] ∷ fields bs) (grown b (fields bs))) ≤ length (b ∷ bs) + 1) [ true ↦ omega arith | false ↦ grown-long b (length (b ∷ bs)) (fields bs) (omega arith) ]
+fields_long : (t : List ℕ) → length (fields t) ≤ length t + 1
+fields_long [] = omega arith
+fields_long (b ∷ bs) =
+    let ih = fields_long bs in
+    elim (eqb b 9) as (λ y. length (cond y ([] ∷ fields bs) (grown b (fields bs))) ≤ length (b ∷ bs) + 1) [ true ↦ omega arith | false ↦ grown_long b (length (b ∷ bs)) (fields bs) (omega arith) ]
 
 few : (rest : List ℕ) → length (more rest) ≤ length rest
 few [] = omega arith
 few (b ∷ bs) =
-    let l = fields-long bs in
+    let l = fields_long bs in
     elim (eqb b 9) as (λ y. length (cond y (fields bs) []) ≤ length (b ∷ bs)) [ true ↦ omega arith | false ↦ omega arith ]
 
 -- reading as many fields as there are bytes reads them all
 pub whole : {X : Type 0} (rule : List ℕ → Option X) (rest : List ℕ) (old new : List X) (at n : ℕ) (tail : List ℕ) (g : FieldsRead rule (more rest) (length rest) old new at n tail) → all rule (more rest) ≡ Some g.got
 whole rule rest old new at n tail g = ap (all rule) (sym (take_all (length rest) (more rest) (few rest))) ∙ g.are
 
-pub none-of-all : {X : Type 0} (rule : List ℕ → Option X) (rest : List ℕ) → all rule (take (length rest) (more rest)) ≡ None → all rule (more rest) ≡ None
-none-of-all rule rest e = ap (all rule) (sym (take_all (length rest) (more rest) (few rest))) ∙ e
+pub none_of_all : {X : Type 0} (rule : List ℕ → Option X) (rest : List ℕ) → all rule (take (length rest) (more rest)) ≡ None → all rule (more rest) ≡ None
+none_of_all rule rest e = ap (all rule) (sym (take_all (length rest) (more rest) (few rest))) ∙ e

@@ -56,7 +56,8 @@ pub fn read_fields<'a, F: Field>(
     to: &mut [F],
     at: usize,
 ) -> Option<(usize, &'a [u8])>
-    ensures { MatchOption result (all F.Field.rule (take most (more rest.now)) ≡ None) (λ x. FieldsRead F.Field.rule (more rest.now) most to.old to.new at x.0 x.1.now) }
+    ensures fields { MatchOption result (all F.Field.rule (take most (more rest.now)) ≡ None) (λ x. FieldsRead F.Field.rule (more rest.now) most to.old to.new at x.0 x.1.now) }
+    ensures before { take at to.new ≡ take at to.old }
 {
     let room = to.len().saturating_sub(at);
     let mut n: usize = 0;

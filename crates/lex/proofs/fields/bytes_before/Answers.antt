@@ -1,5 +1,5 @@
 use Rattle.std.proofs.Common.{◌<◌, length, arith, rules}
-use Rattle.lex.proofs.Steps.{len_more, len-none}
+use Rattle.lex.proofs.Steps.{len_more, len_none}
 use Rattle.lex.proofs.fields.bytes_before.Goals as goal
 
 pub loop-rest-preserved : goal.loop-rest-preserved
@@ -11,5 +11,5 @@ loop-rest-preserved c =
 pub returns : goal.returns
 returns c =
     let h : length c.loop-rest.rest.now < 1 = search rules in
-    let e = len-none c.args.mark c.loop-rest.rest.now h in
+    let e = len_none c.args.mark c.loop-rest.rest.now h in
     record { is = omega (arith, e, c.loop-rest.invariant.0); within = search rules }

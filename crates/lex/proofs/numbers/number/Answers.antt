@@ -1,10 +1,10 @@
 use Rattle.std.proofs.Common.{◌-◌, ◌<◌, ◌≤◌, length, get_or, sym, refl, ◌∙◌, arith, rules}
 use Rattle.std.proofs.lemmas.List.Edits.{length-between}
-use Rattle.lex.proofs.Steps.{digits_more, digits-none, pow_more, pow-some}
+use Rattle.lex.proofs.Steps.{digits_more, digits_none, pow_more, pow_some}
 use Rattle.lex.proofs.numbers.number.Goals as goal
 
 pub loop-rest-init : goal.loop-rest-init
-loop-rest-init c = (refl, c.requires, pow-some _)
+loop-rest-init c = (refl, c.requires, pow_some _)
 
 pub loop-rest-preserved : goal.loop-rest-preserved
 loop-rest-preserved c =
@@ -19,4 +19,4 @@ loop-rest-preserved c =
 pub returns : goal.returns
 returns c =
     let h : length c.loop-rest.rest.now < 1 = search rules in
-    sym (digits-none c.loop-rest.n c.loop-rest.rest.now h) ∙ c.loop-rest.invariant.0
+    sym (digits_none c.loop-rest.n c.loop-rest.rest.now h) ∙ c.loop-rest.invariant.0
