@@ -1,17 +1,19 @@
 -- Memories that hold their shapes pass the tests of a run and of a pairing. Assumes nothing.
-use Rattle.std.proofs.Common.{◌≡◌, ℕ, ◌≤◌, Bool, true, false, not, nat_lt, ◌==◌, ◌||◌, List, [], ◌∷◌, ◌++◌, refl, ap, ◌∙◌, arith, eq-eqb}
+use Rattle.std.proofs.Common.{◌≡◌, ℕ, ◌≤◌, Bool, true, false, not, nat_lt, ◌==◌, ◌||◌, List, [], ◌∷◌, ◌++◌, refl, ap, ◌∙◌, arith, eq-eqb, length, ap₂}
 use Rattle.std.proofs.lemmas.Bool.{le-ltb, ne_eqb}
 use Rattle.shape.specs.Shapes.{no_lanes, too_large, misfit, Fits}
 use Rattle.shape.specs.Refusals.{first_of}
 use Rattle.shape.specs.declared.operand.TableShape.{TableShape}
 use Rattle.shape.proofs.Answered.{first_after}
 use Rattle.shape.proofs.Verdicts.{numbered}
-use Rattle.state.specs.Memory.{parts_tests, vector_of, Holds}
+use Rattle.state.specs.Memory.{parts_tests, vector_of, Holds, shown, lengths}
 use Rattle.state.specs.declared.parts.Parts.{Parts}
 use Rattle.forward.specs.Tests.{memory_tests}
 use Rattle.backward.specs.Tests.{weights_tests}
 use Rattle.sweep.specs.Scripts.{run_tests}
 use Rattle.pairing.specs.Pairings.{pairing_tests}
+use Rattle.exact.specs.Tasks.{task_tests, over_limits, Workable}
+use Rattle.exact.specs.declared.task.Task.{Task}
 
 all_false : (a b c d e : Bool) → a ≡ false → b ≡ false → c ≡ false → d ≡ false → e ≡ false → first_of ((1, a) ∷ (2, b) ∷ (3, c || (d || e)) ∷ []) ≡ 0
 all_false a b c d e p q r s t = rw (p, q, r, s, t) refl
@@ -54,3 +56,17 @@ pub pairing_clear : (t : TableShape) (s w : Parts ℕ) (sl : ℕ) → Holds t s 
 pairing_clear t s w sl hs hw e =
     all_clear (parts_tests t s) (parts_tests t w ++ ((3, not (sl == t.lanes)) ∷ [])) refl (parts_clear t s hs)
     (last_clear (parts_tests t w) 3 (not (sl == t.lanes)) refl (parts_clear t w hw) (ap not (eq-eqb sl t.lanes e)))
+
+pub task_clear : (x : Task) (ks ps qs : ℕ) → Workable x ks ps qs → first_of (task_tests x ks ps qs) ≡ 0
+task_clear x ks ps qs h =
+    let sizes = three (not (ks == length x.script.steps.now)) (not (ps == x.shape.lanes)) (not (qs == x.shape.lanes))
+    (ap not (eq-eqb _ _ h.answers)) (ap not (eq-eqb _ _ h.after)) (ap not (eq-eqb _ _ h.before)) in
+    let limits = three (nat_lt 1024 (length x.state.table.now)) (nat_lt 1024 (length x.state.first.now)) (nat_lt 1024 (length x.script.numbers.now))
+    (le-ltb 1024 _ h.table) (le-ltb 1024 _ h.vector) (le-ltb 1024 _ h.numbers) in
+    let a = not (ks == length x.script.steps.now) || (not (ps == x.shape.lanes) || not (qs == x.shape.lanes)) in
+    all_clear (parts_tests x.shape (lengths (shown x.state))) (parts_tests x.shape (lengths (shown x.weights)) ++ ((3, a) ∷ (14, over_limits x) ∷ [])) refl (parts_clear x.shape _ h.state)
+    (all_clear (parts_tests x.shape (lengths (shown x.weights))) ((3, a) ∷ (14, over_limits x) ∷ []) refl (parts_clear x.shape _ h.weights)
+    (ap₂ (λ p q. first_of ((3, p) ∷ (14, q) ∷ [])) sizes limits))
+  where
+    three : (a b c : Bool) → a ≡ false → b ≡ false → c ≡ false → a || (b || c) ≡ false
+    three a b c e f g = rw (e, f, g) refl

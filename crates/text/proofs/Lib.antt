@@ -1,1 +1,4 @@
 pub mod Puts
+pub mod Agreement
+pub mod Rooms
+pub mod Solutions

@@ -1,4 +1,7 @@
-//! The text program: the lines that it writes.
+//! The text program: a text is read, its script is run forward and back in its ring, and what came of
+//! it is written, in one call.
 #![tactic(auto)]
 
 mod lines;
+mod solution;
+pub mod text;

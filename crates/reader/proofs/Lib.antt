@@ -1,0 +1,4 @@
+pub mod Fields
+pub mod Growth
+pub mod Holding
+pub mod Reading

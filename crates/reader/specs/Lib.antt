@@ -1,0 +1,4 @@
+pub mod Grammar
+pub mod Said
+pub mod Judged
+pub mod Held
