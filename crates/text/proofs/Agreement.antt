@@ -1,6 +1,6 @@
 -- Each lane's two pairings are one number, since the backward run is the transpose of the forward run. Assumes nothing.
 use Rattle.std.proofs.Common.{◌≡◌, ℕ, ◌^◌, List, ap, lit<}
-use Rattle.scalar.specs.Modular.{wraps, residues, modulus}
+use Rattle.scalar.specs.Modular.{modulus}
 use Rattle.scalar.specs.ModularRing.{modular_ring}
 use Rattle.steps.proofs.Transposes.{runs_transposed}
 use Rattle.exact.specs.Values.{wrap_value, residue_value}

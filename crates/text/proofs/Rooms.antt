@@ -1,10 +1,8 @@
 -- What is written has room: 64 steps and their lanes take at most 58,048 bytes. Assumes nothing.
-use Rattle.std.proofs.Common.{◌≡◌, ℕ, zero, suc, ◌+◌, ◌*◌, ◌^◌, ◌<◌, ◌≤◌, Bool, true, false, cond, ◌&&◌, nat_le, List, [], ◌∷◌, ◌++◌, length, map, codes, decimal, refl, sym, ap, ◌∙◌, subst, arith, length-append, lit<}
+use Rattle.std.proofs.Common.{◌≡◌, ℕ, zero, suc, ◌+◌, ◌*◌, ◌^◌, ◌<◌, ◌≤◌, Bool, true, ◌&&◌, nat_le, List, [], ◌∷◌, length, map, codes, decimal, refl, ap, ◌∙◌, arith, length-append}
 use Rattle.std.proofs.lemmas.Bool.{and_parts, cond_both, leb-true}
 use Rattle.std.proofs.lemmas.Fmt.{length-decimal-le}
 use Rattle.scalar.specs.Ops.{Ops}
-use Rattle.scalar.specs.Sums.{sum_from}
-use Rattle.scalar.specs.Modular.{Below}
 use Rattle.shape.specs.Refusals.{first_of}
 use Rattle.steps.specs.States.{Lane, columns_from, pairing}
 use Rattle.steps.specs.Steps.{Step, fault, step_tests}

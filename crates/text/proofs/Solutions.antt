@@ -1,10 +1,14 @@
 -- What is written for a task that is solved. Assumes nothing.
-use Rattle.std.proofs.Common.{◌≡◌, ℕ, zero, suc, ◌+◌, ◌*◌, ◌^◌, ◌<◌, ◌≤◌, ℤ, List, [], ◌∷◌, ◌++◌, length, map, get_or, codes, refl, sym, ap, ap₂, ◌∙◌, subst, arith}
+use Rattle.std.proofs.Common.{◌≡◌, ℕ, zero, suc, ◌*◌, ◌^◌, ◌<◌, ◌≤◌, ℤ, List, [], ◌∷◌, ◌++◌, length, map, get_or, codes, refl, ap, ap₂, ◌∙◌, arith}
 use Rattle.std.proofs.lemmas.List.{length-map}
 use Rattle.scalar.specs.Ops.{Ops}
 use Rattle.scalar.specs.Modular.{Below, wraps, residues}
 use Rattle.exact.specs.Values.{wrap_value, residue_value}
+use Rattle.shape.specs.declared.operand.TableShape.{TableShape}
+use Rattle.steps.specs.States.{Lane, Alike}
 use Rattle.steps.specs.Steps.{Step, fault}
+use Rattle.steps.specs.Runs.{run, carry}
+use Rattle.steps.proofs.Alikes.{run_alike, carry_alike, pairing_alike}
 use Rattle.state.specs.Memory.{shown, lane_of}
 use Rattle.sweep.specs.Sweeps.{steps_of}
 use Rattle.exact.specs.Tasks.{paired_after, paired_before, Solved}
@@ -22,6 +26,18 @@ lanes_same zero f g f' g' p q = refl
 lanes_same (suc n) f g f' g' p q =
     ap₂ (λ s t. s ++ t) (lanes_same n f g f' g' (λ b l. p b (omega arith)) (λ b l. q b (omega arith)))
     (ap₂ (λ x y. line (codes "lane") (n ∷ x ∷ y ∷ [])) (p n (omega arith)) (q n (omega arith)))
+
+-- lanes alike at each place are written the same
+pub run_same : {M : Type 0} (o : Ops M) (number : M → ℕ) (t : TableShape) (xs : List (Step M)) (s w s' w' : ℕ → Lane M)
+    → ((b : ℕ) → b < t.lanes → Alike t.rows t.cols (s b) (s' b)) → ((b : ℕ) → b < t.lanes → Alike t.rows t.cols (w b) (w' b))
+    → run_lines o number t xs s w ≡ run_lines o number t xs s' w'
+run_same o number t xs s w s' w' p q =
+    let r = t.rows in
+    let c = t.cols in
+    ap (λ z. step_lines 0 (map (fault r c) xs) ++ z)
+    (lanes_same t.lanes _ _ _ _
+    (λ b l. ap number (pairing_alike o r c (run o r c xs (s b)) (w b) (run o r c xs (s' b)) (w' b) (run_alike o r c xs (s b) (s' b) (p b l)) (q b l)))
+    (λ b l. ap number (pairing_alike o r c (s b) (carry o r c xs (w b)) (s' b) (carry o r c xs (w' b)) (p b l) (carry_alike o r c xs (w b) (w' b) (q b l)))))
 
 module _ {m : ℕ} (o : Ops (Below m)) (value : ℤ → Below m) (x : Task) (ks ps qs : List ℕ) (h : Solved o value (λ n. n.number) x ks ps qs) where
   written : (out mid new : List ℕ) (here there : ℕ) → length ps ≡ x.shape.lanes

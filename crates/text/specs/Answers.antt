@@ -1,5 +1,5 @@
 -- What is written for a text: its first fault alone, or its steps and the pairings of its lanes. Assumes nothing.
-use Rattle.std.specs.Prelude.{◌≡◌, ℕ, List, ◌++◌, map, ℤ, Option, Some, None}
+use Rattle.std.specs.Prelude.{◌≡◌, ℕ, ◌≤◌, List, ◌++◌, length, drop, map, ℤ, Option, Some, None}
 use Rattle.scalar.specs.Ops.{Ops}
 use Rattle.scalar.specs.Modular.{wraps, residues}
 use Rattle.shape.specs.Shapes.{cell}
@@ -72,6 +72,12 @@ lines_for None ls = script_lines (ring_in ls) ls
 -- the bytes that are written for a text
 abbrev pub answer_of : List ℕ → List ℕ
 answer_of text = lines_for (judged text).fault (judged text).lawful
+
+-- n bytes were written over the front of old, those for the text, and all others stayed
+pub record Answered (text old new : List ℕ) (n : ℕ) : Type 0 where
+  pub count : n ≡ length (answer_of text)
+  pub room : n ≤ 65536
+  pub bytes : new ≡ answer_of text ++ drop n old
 
 -- in every lane of a text that is no fault, both pairings are the same number
 abbrev pub PairingsAgree : List ℕ → Type 0

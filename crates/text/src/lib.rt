@@ -3,5 +3,8 @@
 #![tactic(auto)]
 
 mod lines;
+mod program;
 mod solution;
 pub mod text;
+
+pub use text::run_text;

@@ -1,4 +1,4 @@
-use Rattle.std.proofs.Common.{◌≡◌, ℕ, ◌+◌, ◌*◌, ◌≤◌, List, map, length, get_or, ap, ◌∙◌, sym, arith}
+use Rattle.std.proofs.Common.{◌*◌, ◌≤◌, map, length, get_or, ap, ◌∙◌, arith}
 use Rattle.std.proofs.lemmas.List.{length-map}
 use Rattle.shape.specs.Refusals.{answer}
 use Rattle.shape.proofs.Answered.{on_ok}
