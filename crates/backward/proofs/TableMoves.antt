@@ -16,7 +16,9 @@ use Rattle.differences.specs.Rows.{multiplied, transposed}
 use Rattle.differences.specs.Transposes.{transpose_tests, Transposed, cell_totalled}
 use Rattle.steps.specs.Actions.{total}
 use Rattle.state.specs.Memory.{vector_of}
-use Rattle.state.proofs.Lanes.{own_lane, cell_written, cell_kept}
+use Rattle.product.proofs.Entries.{cell_kept}
+use Rattle.shape.proofs.Passes.{own_lane}
+use Rattle.state.proofs.Lanes.{cell_written}
 use Rattle.forward.proofs.Columns.{at_rest, columns_multiplied}
 use Rattle.backward.proofs.Accepts.{ger_accepted, transpose_accepted}
 use Rattle.backward.proofs.Moves.{rows}
@@ -34,7 +36,7 @@ module _ {S M : Type 0} (means : S → M) (o : Ops M) (t : TableShape) (old cur 
   ]
     where
       outside : (InBand c n b j i → ⊥) → at means o cur (cell t b j i) ≡ new b j i
-      outside out = cell_kept means o t old cur fits same (InBand c n) (meant means new) b j i done w out ∙ sym (else b j i out)
+      outside out = cell_kept means o t (InBand c n) (meant means new) old cur fits same done b j i w out ∙ sym (else b j i out)
 
   spread_else : (e : ℕ → M) (start n : ℕ) (a : M) (x : ℕ → M) (p : M) (b j i : ℕ) → (InBand start n b j i → ⊥) → spread o e start n a x p j ≡ e j
   spread_else e start n a x p b j i out = cond-false (leb start j && ltb j (start + n)) _ _ (elim (cases_lt j start) [
@@ -63,7 +65,7 @@ module _ {S M : Type 0} (means : S → M) (o : Ops M) (t : TableShape) (old cur 
       let e = row_of means o t old b i in
       let p = rows means o V ps b i in
       let test = leb start j && ltb j (start + n) in
-      let own : broadcast means o V ps t.lanes b i ≡ p = ap (λ z. at means o ps (cell V.of z 0 i)) (own_lane b t.lanes t.lanes refl w.lane) in
+      let own : broadcast means o V ps t.lanes b i ≡ p = ap (λ z. at means o ps (cell V.of z 0 i)) (own_lane b t.lanes t.lanes refl (omega (arith, w.lane))) in
       banded start n (cell_gained means o a xs V ps t start n old) (λ b j i out. spread_else (row_of means o t old b i) start n a (λ l. at means o xs l) (broadcast means o V ps t.lanes b i) b j i out) done b j i w
       ∙ ap (λ z. spread o e start n a (λ l. at means o xs l) z j) own
       ∙ ap (λ z. cond test (o.plus (e j) (o.times (o.times a z) p)) (e j)) (at_rest means o numbers 2 (j - start))
@@ -85,5 +87,5 @@ module _ {S M : Type 0} (means : S → M) (o : Ops M) (t : TableShape) (old cur 
         columns = columns_multiplied means o t (k + 3) (transposed o k) old cur fits same done.columns;
         sums = λ b i l h.
             cell_written means o V.of ds ds' law.fits kept (InColumn 0) (cell_totalled means o t old (k + 3) V) b 0 i done.sum_in_d (record { lane = l; col = omega arith; row = h }) refl
-            ∙ ap (λ z. total o (row_of means o t old z i) (k + 3)) (own_lane b t.lanes t.lanes refl l);
+            ∙ ap (λ z. total o (row_of means o t old z i) (k + 3)) (own_lane b t.lanes t.lanes refl (omega arith));
       }

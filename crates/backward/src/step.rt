@@ -7,6 +7,7 @@ ghost use Rattle.steps.specs.Lanes.{StepBack};
 ghost use Rattle.state.specs.Memory.{held, SameLoan, lengths, vector_of, lane_of, step_of};
 ghost use Rattle.forward.specs.Forward.{Allowed};
 ghost use Rattle.forward.specs.Tests.{Roomy};
+ghost use Rattle.state.specs.Reach.{KeptBeyond, reach_back};
 ghost use Rattle.backward.specs.Backs.{BackBy};
 ghost use Rattle.backward.specs.Tests.{weights_tests};
 
@@ -36,6 +37,7 @@ fn back_kind<S: Scalar>(
     requires allowed { Allowed t.rows t.cols kind (length numbers.now) list.now }
     ensures lent { SameLoan weights.old weights.new }
     ensures back { BackBy S.means S.ops t kind (map S.means numbers.now) list.now (held weights.old) (held weights.new) }
+    ensures kept { KeptBeyond t (reach_back kind) (held weights.old) (held weights.new) }
 {
     let table = &mut *weights.table;
     let first = &mut *weights.first;
@@ -68,6 +70,7 @@ fn back_accepted<S: Scalar>(
     requires passed { fault t.rows t.cols (step_of S.means x script) ≡ 0 }
     ensures lent { SameLoan weights.old weights.new }
     ensures carried { StepBack S.ops t.rows t.cols t.lanes (lane_of S.means S.ops t) (step_of S.means x script.entry) 0 (held weights.old) (held weights.new) }
+    ensures kept { KeptBeyond t (reach_back x.kind) (held weights.old) (held weights.new) }
 {
     let numbers = script.numbers_of(x).unwrap_or(&[]);
     let list = script.list_of(x).unwrap_or(&[]);
@@ -81,7 +84,7 @@ fn back_accepted<S: Scalar>(
 /// Refuses 1 and 2 for the shape, 3 where a memory does not hold its shape or the work memory is too
 /// small, and then what the step itself is refused for, as on the way forward. A refused step leaves
 /// every memory as it is; an accepted one leaves in each lane what its kind makes of it on the way
-/// back, and w and the work memory in any state.
+/// back, what its kind does not reach as it is stored, and w and the work memory in any state.
 pub fn step_back<S: Scalar>(
     t: TableShape,
     weights: &mut Parts<&mut [S]>,
@@ -93,6 +96,7 @@ pub fn step_back<S: Scalar>(
     ensures lent { SameLoan weights.old weights.new }
     ensures verdict { answer result ≡ first_of (weights_tests t (lengths (held weights.old)) (length ws.old) (length work.old) ++ step_tests t.rows t.cols (step_of S.means x script.entry)) }
     ensures taken { first_of (weights_tests t (lengths (held weights.old)) (length ws.old) (length work.old)) ≡ 0 → StepBack S.ops t.rows t.cols t.lanes (lane_of S.means S.ops t) (step_of S.means x script.entry) (answer result) (held weights.old) (held weights.new) }
+    ensures kept { KeptBeyond t (reach_back x.kind) (held weights.old) (held weights.new) }
     ensures refused { OnErr result ((held weights.new ≡ held weights.old) × (ws.new ≡ ws.old) × (work.new ≡ work.old)) }
 {
     check_weights(t, weights.lens(), ws.len(), work.len())?;

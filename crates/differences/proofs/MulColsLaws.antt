@@ -12,7 +12,7 @@ use Rattle.differences.specs.Tiles.{InTile, RowsAbove}
 use Rattle.differences.specs.declared.matrix.Matrix.{Matrix}
 use Rattle.differences.specs.declared.tile.Tile.{Tile}
 use Rattle.shape.proofs.Cells.{changed_more}
-use Rattle.differences.proofs.Pieces.{rest_means}
+use Rattle.product.proofs.Entries.{cell_kept}
 use Rattle.differences.proofs.RowLaws.{multiplied_cong}
 
 pub multiplied_kept : {S M : Type 0} (means : S → M) (o : Ops M) (t : TableShape) (m : Matrix) (numbers : List S) (D : ℕ → ℕ → ℕ → Type 0) (P : ℕ → ℕ → ℕ → S → Type 0) (old cur : List S)
@@ -21,7 +21,7 @@ pub multiplied_kept : {S M : Type 0} (means : S → M) (o : Ops M) (t : TableSha
     → cell_multiplied means o t m numbers cur b j i ≡ cell_multiplied means o t m numbers old b j i
 multiplied_kept means o t m numbers D P old cur fits len within c b j i w h out =
     multiplied_cong o (row_of means o t cur b i) (row_of means o t old b i) m.size (entry_of o m (map means numbers)) j h
-    (λ l n. rest_means means o t D P old cur fits len c b l i (record { lane = w.lane; col = omega arith; row = w.row }) (out l n))
+    (λ l n. cell_kept means o t D P old cur fits len c b l i (record { lane = w.lane; col = omega arith; row = w.row }) (out l n))
 
 -- after the rows above a tile, the tile
 pub tile_more : {S M : Type 0} (means : S → M) (o : Ops M) (t : TableShape) (m : Matrix) (numbers : List S) (p : Tile) (old cur cur' : List S)

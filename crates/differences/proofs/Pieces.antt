@@ -1,15 +1,11 @@
 -- A column of one lane, or some rows of it, as a run of memory: where it lies, and what is written and what is not. Assumes nothing.
-use Rattle.std.proofs.Common.{◌≡◌, ℕ, ◌+◌, ◌-◌, ◌*◌, ◌<◌, ◌≤◌, ◌⊎◌, List, length, sym, ap, ◌∙◌, inl, inr, add-mul, mul-le-mul, arith}
+use Rattle.std.proofs.Common.{◌≡◌, ℕ, ◌+◌, ◌-◌, ◌*◌, ◌<◌, ◌≤◌, ◌⊎◌, List, sym, ap, ◌∙◌, inl, inr, add-mul, mul-le-mul, arith}
 use Rattle.std.proofs.lemmas.Bool.{cases_lt, cases_eq}
-use Rattle.scalar.specs.Ops.{Ops}
-use Rattle.scalar.specs.Sums.{at}
-use Rattle.scalar.proofs.Stored.{at_same}
 use Rattle.shape.specs.Shapes.{start, cell, column_of, In, Fits, Lawful}
-use Rattle.shape.specs.Changes.{Changed, RunChanged, LaneBand, LanesBand}
+use Rattle.shape.specs.Changes.{Changed, RunChanged, LaneBand}
 use Rattle.shape.specs.declared.operand.TableShape.{TableShape}
 use Rattle.shape.specs.declared.operand.Column.{Column}
-use Rattle.shape.proofs.Blocks.{cell_fits, band_apart}
-use Rattle.shape.proofs.Cells.{changed_more}
+use Rattle.shape.proofs.Blocks.{band_apart}
 
 -- within the limits of a shape a place is far below 2^64
 pub start_small : (t : TableShape) (len b c : ℕ) → Fits t len → b < t.lanes → c ≤ t.cols → start t b c ≤ 274945015808
@@ -75,22 +71,3 @@ column_changed t l c a P cur cur' at_a col wrote = record {
   kept = λ b j i d w out. wrote.kept (cell t b j i) d
       (elim (band_apart t l c 1 b j i (omega arith) w.col w.row out) [ inl low ↦ inl (omega arith) | inr high ↦ inr (omega arith) ]);
 }
-
--- a cell that was not written means what it meant
-pub rest_means : {S M : Type 0} (means : S → M) (o : Ops M) (t : TableShape) (D : ℕ → ℕ → ℕ → Type 0) (P : ℕ → ℕ → ℕ → S → Type 0) (old cur : List S)
-    → Fits t (length old) → length cur ≡ length old → Changed t D P old cur
-    → (b j i : ℕ) → In t b j i → (D b j i → ⊥) → at means o cur (cell t b j i) ≡ at means o old (cell t b j i)
-rest_means means o t D P old cur fits len c b j i w out =
-    let f = cell_fits t (length old) b j i fits w in
-    at_same means o cur old (cell t b j i) (cell t b j i) (omega arith) f (λ d. c.kept b j i d w out)
-
--- after the lanes below l, lane l: its cells are as P says where Q says so of them
-pub lane_more : {S : Type 0} (t : TableShape) (l c n : ℕ) (P Q : ℕ → ℕ → ℕ → S → Type 0) (old cur cur' : List S)
-    → ((j i : ℕ) (v : S) → In t l j i → c ≤ j → j < c + n → Q l j i v → P l j i v)
-    → Changed t (LanesBand l c n) P old cur → Changed t (LaneBand l c n) Q cur cur' → Changed t (LanesBand (l + 1) c n) P old cur'
-lane_more t l c n P Q old cur cur' agree =
-    changed_more t (LanesBand l c n) (LaneBand l c n) (LanesBand (l + 1) c n) P Q old cur cur'
-    (λ b j i w h. elim (cases_eq b l) [ inl e ↦ inl (e, h.1, h.2) | inr ne ↦ inr ((λ x. ne x.0), (omega arith, h.1, h.2)) ])
-    (λ b j i h. (omega arith, h.1, h.2))
-    (λ b j i w h. (omega arith, h.1, h.2))
-    (λ b j i v w h q. rw h.0 (agree j i v (record { lane = omega (arith, w.lane); col = w.col; row = w.row }) h.1 h.2 (rw h.0 at q)))

@@ -10,7 +10,7 @@ use Rattle.shape.specs.declared.operand.TableShape.{TableShape}
 use Rattle.shape.proofs.Blocks.{cell_fits}
 use Rattle.product.specs.Results.{row_of}
 use Rattle.differences.specs.Updates.{accumulated, cell_accumulated, Accumulated}
-use Rattle.differences.proofs.Pieces.{rest_means}
+use Rattle.product.proofs.Entries.{cell_kept}
 use Rattle.differences.proofs.RowLaws.{accumulated_step}
 
 module _ {S M : Type 0} (means : S → M) (o : Ops M) (t : TableShape) (lane n m : ℕ) (old cur : List S) (fits : Fits t (length old)) (len : length cur ≡ length old) (run : Accumulated means o t lane n m old cur) where
@@ -23,7 +23,7 @@ module _ {S M : Type 0} (means : S → M) (o : Ops M) (t : TableShape) (lane n m
     | inr all ↦
         let last : m ≡ n = omega arith in
         let none : n - m ≡ 0 = omega arith in
-        rest_means means o t (LaneBand lane m (n - m)) _ old cur fits len run lane m i w (λ x. omega arith)
+        cell_kept means o t (LaneBand lane m (n - m)) _ old cur fits len run lane m i w (λ x. omega arith)
         ∙ ap (row_of means o t old lane i) last ∙ ap (accumulated o (row_of means o t old lane i) n) (sym none)
   ]
 
@@ -31,7 +31,7 @@ module _ {S M : Type 0} (means : S → M) (o : Ops M) (t : TableShape) (lane n m
   pub gained_means : (j i : ℕ) → m ≡ j + 1 → m ≤ n → In t lane j i → m < t.cols
       → o.plus (at means o cur (cell t lane j i)) (at means o cur (cell t lane m i)) ≡ cell_accumulated means o t n old lane j i
   gained_means j i next h w col =
-      let own = rest_means means o t (LaneBand lane m (n - m)) _ old cur fits len run lane j i w (λ x. omega arith) in
+      let own = cell_kept means o t (LaneBand lane m (n - m)) _ old cur fits len run lane j i w (λ x. omega arith) in
       let right = first_means i (record { lane = w.lane; col = col; row = w.row }) h in
       let step = accumulated_step o (row_of means o t old lane i) n j (omega arith) in
       let same : cell_accumulated means o t n old lane m i ≡ cell_accumulated means o t n old lane (j + 1) i = ap (λ z. cell_accumulated means o t n old lane z i) next in

@@ -16,7 +16,7 @@ use Rattle.product.proofs.RowLaws.{summed_cong}
 use Rattle.differences.specs.Rows.{multiplied, updated}
 use Rattle.differences.specs.MulCols.{Multiplied}
 use Rattle.differences.specs.Updates.{cell_updated, Updated}
-use Rattle.state.proofs.Lanes.{own_lane}
+use Rattle.shape.proofs.Passes.{own_lane}
 use Rattle.forward.proofs.Families.{Written, written, columns_meant}
 
 module _ {S M : Type 0} (means : S → M) (o : Ops M) where
@@ -32,7 +32,7 @@ module _ {S M : Type 0} (means : S → M) (o : Ops M) where
   columns_summed a b t ts start n xs x y old cur ly lanes same coeffs c =
       written means o y _ (λ k i. summed o (row_of means o t ts k i) start n a b x (at means o old (cell y.of k y.col i))) old cur ly same
       (λ k i w q.
-      let own = own_lane k t.lanes y.of.lanes lanes w.lane in
+      let own = own_lane k t.lanes y.of.lanes lanes (omega (arith, w.lane)) in
       let there = cell_fits y.of (length old) k y.col i ly.fits w in
       at_is means o cur (cell y.of k y.col i) _ (omega arith)
       (λ d.
@@ -51,7 +51,7 @@ module _ {S M : Type 0} (means : S → M) (o : Ops M) where
       → Updated means o t k d' ds old cur
       → (b j i : ℕ) → In t b j i → at means o cur (cell t b j i) ≡ updated o (row_of means o t old b i) (at means o ds (cell d.of b d.col i)) k j
   columns_updated t k d d' ds old cur ed lanes fits same c b j i w =
-      let own = own_lane b d.of.lanes t.lanes lanes w.lane in
+      let own = own_lane b d.of.lanes t.lanes lanes (omega (arith, w.lane)) in
       columns_meant means o t (k + 3) (cell_updated means o t k d ds old) old cur fits same
       (λ b j i from. cond-false (leb j (k + 2)) _ _ (lt-leb j (k + 2) (omega arith)))
       (subst (λ (v : Column). Updated means o t k v ds old cur) ed c) b j i w

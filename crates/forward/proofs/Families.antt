@@ -13,8 +13,9 @@ use Rattle.shape.proofs.Blocks.{cell_fits}
 use Rattle.elementwise.specs.Entrywise.{Entrywise, Revised}
 use Rattle.index.specs.Transposes.{put}
 use Rattle.steps.proofs.Lists.{put_same, put_other}
-use Rattle.state.proofs.Lanes.{own_lane, cell_written, cell_kept, cell_made}
-use Rattle.shape.proofs.Passes.{pair_passes}
+use Rattle.product.proofs.Entries.{cell_kept}
+use Rattle.state.proofs.Lanes.{cell_written, cell_made}
+use Rattle.shape.proofs.Passes.{own_lane, pair_passes}
 use Rattle.forward.proofs.Passes.{column_passes}
 
 module _ {S M : Type 0} (means : S → M) (o : Ops M) where
@@ -30,7 +31,7 @@ module _ {S M : Type 0} (means : S → M) (o : Ops M) where
     rows = λ b i l h.
         let w : In y.of b y.col i = record { lane = l; col = law.within; row = h } in
         made b i w (λ d. c.written b y.col i d w refl);
-    others = λ b j i w ne. cell_kept means o y.of old cur law.fits same (InColumn y.col) P b j i c w ne;
+    others = λ b j i w ne. cell_kept means o y.of (InColumn y.col) P old cur law.fits same c b j i w ne;
   }
 
   -- a call that makes each row of y from its own old entry and the same row of x
@@ -44,7 +45,7 @@ module _ {S M : Type 0} (means : S → M) (o : Ops M) where
       let done = subst (λ (p : Column). Entrywise p xs y R old cur) ex (subst (λ (q : Column). Entrywise x' xs q R old cur) ey (accepted passes)) in
       written y _ (λ b i. F (at means o xs (cell x.of b x.col i)) (at means o old (cell y.of b y.col i))) old cur ly same
       (λ b i w q.
-      let own = own_lane b x.of.lanes y.of.lanes lanes w.lane in
+      let own = own_lane b x.of.lanes y.of.lanes lanes (omega (arith, w.lane)) in
       let read : In x.of b x.col i = record { lane = omega (arith, w.lane); col = lx.within; row = omega (arith, w.row) } in
       cell_made means o y.of old cur ly.fits same F xs (cell x.of b x.col i) b y.col i w (cell_fits x.of (length xs) b x.col i lx.fits read)
       (λ d.
@@ -83,5 +84,5 @@ module _ {S M : Type 0} (means : S → M) (o : Ops M) where
       → Changed t (InBand 0 n) (meant means new) old cur → (b j i : ℕ) → In t b j i → at means o cur (cell t b j i) ≡ new b j i
   columns_meant t n new old cur fits same beyond c b j i w = elim (cases_lt j n) [
     | inl below ↦ cell_written means o t old cur fits same (InBand 0 n) new b j i c w (omega arith, omega arith)
-    | inr from ↦ cell_kept means o t old cur fits same (InBand 0 n) (meant means new) b j i c w (λ h. omega arith) ∙ sym (beyond b j i from)
+    | inr from ↦ cell_kept means o t (InBand 0 n) (meant means new) old cur fits same c b j i w (λ h. omega arith) ∙ sym (beyond b j i from)
   ]

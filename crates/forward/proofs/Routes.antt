@@ -14,7 +14,7 @@ use Rattle.index.specs.declared.route.Route.{Route}
 use Rattle.index.specs.declared.route.Route.TheVariants.{Gather, Scatter}
 use Rattle.index.proofs.Tested.{inside_of}
 use Rattle.forward.proofs.Passes.{gather_passes, scatter_passes}
-use Rattle.state.proofs.Lanes.{own_lane}
+use Rattle.shape.proofs.Passes.{own_lane}
 use Rattle.forward.proofs.Families.{Written, written}
 
 cond_means : {S M : Type 0} (means : S → M) (t : Bool) (x y : S) (x' y' : M) → means x ≡ x' → means y ≡ y' → means (cond t x y) ≡ cond t x' y'
@@ -43,7 +43,7 @@ module _ {S M : Type 0} (means : S → M) (o : Ops M) where
       let passes = verdict ∙ ap₂ (λ p q. first_of (gather_tests p (length xs) list q (length old))) ex ey ∙ gather_passes x (length xs) list y (length old) lx ly lanes long inside in
       written means o y _ (λ b i. at means o xs (cell x.of b x.col (get_or list i 0))) old cur ly same
       (λ b i w q.
-      let own = own_lane b x.of.lanes y.of.lanes lanes w.lane in
+      let own = own_lane b x.of.lanes y.of.lanes lanes (omega (arith, w.lane)) in
       let below = inside_of x.of.rows list inside i (omega (arith, w.row)) in
       let there = cell_fits y.of (length old) b y.col i ly.fits w in
       let read = cell_fits x.of (length xs) b x.col (get_or list i 0) lx.fits (record { lane = omega (arith, w.lane); col = lx.within; row = below }) in
@@ -59,7 +59,7 @@ module _ {S M : Type 0} (means : S → M) (o : Ops M) where
       let passes = verdict ∙ ap₂ (λ p q. first_of (scatter_tests p (length xs) list q (length old))) ex ey ∙ scatter_passes x (length xs) list y (length old) lx ly lanes long inside in
       written means o y _ (λ b i. settled list 0 i (λ m. at means o xs (cell x.of b x.col m)) (at means o old (cell y.of b y.col i))) old cur ly same
       (λ b i w q.
-      let own = own_lane b x.of.lanes y.of.lanes lanes w.lane in
+      let own = own_lane b x.of.lanes y.of.lanes lanes (omega (arith, w.lane)) in
       let there = cell_fits y.of (length old) b y.col i ly.fits w in
       at_is means o cur (cell y.of b y.col i) _ (omega arith)
       (λ d.

@@ -4,6 +4,7 @@ ghost use Rattle.shape.specs.Refusals.{answer, first_of};
 ghost use Rattle.steps.specs.Steps.{step_tests, fault};
 ghost use Rattle.steps.specs.Lanes.{StepForward};
 ghost use Rattle.state.specs.Memory.{held, SameLoan, lengths, lane_of, step_of};
+ghost use Rattle.state.specs.Reach.{KeptBeyond, reach_forward};
 ghost use Rattle.forward.specs.Forward.{Forward, Allowed};
 ghost use Rattle.forward.specs.Tests.{memory_tests, Roomy};
 
@@ -30,6 +31,7 @@ fn take_kind<S: Scalar>(
     requires allowed { Allowed t.rows t.cols kind (length numbers.now) list.now }
     ensures lent { SameLoan state.old state.new }
     ensures forward { Forward S.means S.ops t kind (map S.means numbers.now) list.now (held state.old) (held state.new) }
+    ensures kept { KeptBeyond t (reach_forward kind) (held state.old) (held state.new) }
 {
     let table = &mut *state.table;
     let first = &mut *state.first;
@@ -60,6 +62,7 @@ fn take_step<S: Scalar>(
     requires passed { fault t.rows t.cols (step_of S.means x script) ≡ 0 }
     ensures lent { SameLoan state.old state.new }
     ensures taken { StepForward S.ops t.rows t.cols t.lanes (lane_of S.means S.ops t) (step_of S.means x script.entry) 0 (held state.old) (held state.new) }
+    ensures kept { KeptBeyond t (reach_forward x.kind) (held state.old) (held state.new) }
 {
     let numbers = script.numbers_of(x).unwrap_or(&[]);
     let list = script.list_of(x).unwrap_or(&[]);
@@ -71,7 +74,8 @@ fn take_step<S: Scalar>(
 ///
 /// Refuses 1 and 2 for the shape, 3 where a memory does not hold its shape or the work memory is too
 /// small, and then what the step itself is refused for. A refused step leaves every memory as it is;
-/// an accepted one leaves in each lane what its kind makes of it, and the work memory in any state.
+/// an accepted one leaves in each lane what its kind makes of it, what its kind does not reach as it
+/// is stored, and the work memory in any state.
 pub fn step_forward<S: Scalar>(
     t: TableShape,
     state: &mut Parts<&mut [S]>,
@@ -82,6 +86,7 @@ pub fn step_forward<S: Scalar>(
     ensures lent { SameLoan state.old state.new }
     ensures verdict { answer result ≡ first_of (memory_tests t (lengths (held state.old)) (length work.old) ++ step_tests t.rows t.cols (step_of S.means x script.entry)) }
     ensures taken { first_of (memory_tests t (lengths (held state.old)) (length work.old)) ≡ 0 → StepForward S.ops t.rows t.cols t.lanes (lane_of S.means S.ops t) (step_of S.means x script.entry) (answer result) (held state.old) (held state.new) }
+    ensures kept { KeptBeyond t (reach_forward x.kind) (held state.old) (held state.new) }
     ensures refused { OnErr result ((held state.new ≡ held state.old) × (work.new ≡ work.old)) }
 {
     check_memory(t, state.lens(), work.len())?;

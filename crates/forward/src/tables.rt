@@ -3,6 +3,7 @@
 ghost use Rattle.std.specs.Prelude.{◌≡◌, ◌+◌, ◌*◌, ◌<◌, ◌≤◌, List, [], ◌∷◌, map, length};
 ghost use Rattle.shape.specs.Shapes.{Fits};
 ghost use Rattle.state.specs.Memory.{memory, vector_of};
+ghost use Rattle.state.specs.Reach.{ColumnsKept};
 ghost use Rattle.forward.specs.Forward.{Forward};
 ghost use Rattle.steps.specs.declared.kind.Kind.TheVariants.{Update, Cols, SetCol};
 
@@ -16,7 +17,8 @@ pub(crate) fn set_col_step<S: Scalar>(t: TableShape, ds: &mut [S], column: usize
     requires table { Fits t (length ds.old) }
     requires first { Fits (vector_of t).of (length us.now) }
     requires within { column < t.cols }
-    ensures { (vs : List S) → Forward S.means S.ops t (SetCol column) [] [] (memory ds.old us.now vs) (memory ds.new us.now vs) }
+    ensures forward { (vs : List S) → Forward S.means S.ops t (SetCol column) [] [] (memory ds.old us.now vs) (memory ds.new us.now vs) }
+    ensures kept { ColumnsKept t column 1 ds.old ds.new }
 {
     let rows = Column::vector(t.rows, t.lanes);
     let _ = copy_from(rows, us, t.column(column), ds);
@@ -35,7 +37,8 @@ pub(crate) fn cols_step<S: Scalar>(
     requires few { count ≤ 8 }
     requires numbers { length numbers.now ≡ count * count }
     requires room { 8 ≤ length work.old }
-    ensures { (us vs : List S) → Forward S.means S.ops t (Cols count) (map S.means numbers.now) [] (memory ds.old us vs) (memory ds.new us vs) }
+    ensures forward { (us vs : List S) → Forward S.means S.ops t (Cols count) (map S.means numbers.now) [] (memory ds.old us vs) (memory ds.new us vs) }
+    ensures kept { ColumnsKept t 0 count ds.old ds.new }
 {
     let _ = mul_cols_by(t, ds, count, numbers, work);
 }
@@ -45,7 +48,8 @@ pub(crate) fn update_step<S: Scalar>(t: TableShape, ds: &mut [S], order: usize, 
     requires table { Fits t (length ds.old) }
     requires first { Fits (vector_of t).of (length us.now) }
     requires within { order + 2 < t.cols }
-    ensures { (vs : List S) → Forward S.means S.ops t (Update order) [] [] (memory ds.old us.now vs) (memory ds.new us.now vs) }
+    ensures forward { (vs : List S) → Forward S.means S.ops t (Update order) [] [] (memory ds.old us.now vs) (memory ds.new us.now vs) }
+    ensures kept { ColumnsKept t 0 (order + 3) ds.old ds.new }
 {
     let rows = Column::vector(t.rows, t.lanes);
     let _ = update_backward_diff(t, ds, order, rows, us);

@@ -45,6 +45,7 @@ fn gather_back_run<S: Scalar>(list: &[usize], p: &[S], q: &mut [S])
 }
 
 /// From the last entry to the first, row i of p gains row list(i) of q, which becomes zero.
+#[tactic(auto, using(crate::proofs::Backs::returning_within))]
 fn scatter_back_run<S: Scalar>(list: &[usize], p: &mut [S], q: &mut [S])
     requires long { length list.now ≡ length p.old }
     requires inside { Inside (length q.old) list.now }

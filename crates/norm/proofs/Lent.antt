@@ -4,15 +4,9 @@ use Rattle.std.proofs.lemmas.List.{length-drop, drop_more}
 use Rattle.scalar.specs.Ops.{Ops}
 use Rattle.scalar.specs.Orders.{Order}
 use Rattle.scalar.specs.Sums.{at}
-use Rattle.scalar.proofs.Stored.{at_same, at_read}
+use Rattle.scalar.proofs.Stored.{at_read}
 use Rattle.scalar.proofs.SumLaws.{sum_same}
-use Rattle.shape.proofs.Parts.{part_get, length_part}
 use Rattle.norm.specs.Norms.{weighted, mean}
-
-pub at_part : {S M : Type 0} (means : S → M) (o : Ops M) (xs : List S) (a k i : ℕ) → a + k ≤ length xs → i < k → at means o (take ((a + k) - a) (drop a xs)) i ≡ at means o xs (a + i)
-at_part means o xs a k i h l =
-    let long = length_part xs a k h in
-    at_same means o (take ((a + k) - a) (drop a xs)) xs i (a + i) (omega arith) (omega arith) (λ d. part_get a k i xs d h l)
 
 -- the next entry of a slice that is read in order, and what is left then
 pub next_is : {S M : Type 0} (means : S → M) (o : Ops M) (xs left rest : List S) (i : ℕ) (v : S) → left ≡ drop i xs → left ≡ v ∷ rest → (rest ≡ drop (i + 1) xs) × (at means o xs i ≡ means v) × (i < length xs)

@@ -4,7 +4,7 @@ use lib.Arith.{digits_lt}
 use borrow.Rule.Slice.PartMut.{put_mid}
 use Rattle.scalar.specs.Ops.{Ops}
 use Rattle.scalar.specs.Sums.{at, sum_from}
-use Rattle.scalar.proofs.Stored.{at_read, at_is}
+use Rattle.scalar.proofs.Stored.{at_read, at_is, at_part}
 use Rattle.scalar.proofs.SumLaws.{sum_same}
 use Rattle.shape.specs.Changes.{RunChanged}
 use Rattle.shape.proofs.Parts.{length_part, part_changed}
@@ -12,7 +12,7 @@ use Rattle.shape.proofs.Blocks.{block_fits}
 use Rattle.vector.specs.Rows.{blend}
 use Rattle.product.specs.Rows.{summed}
 use Rattle.product.specs.Results.{Run, run_row}
-use Rattle.product.proofs.Entries.{part, at_part, at_front, at_after}
+use Rattle.product.proofs.Entries.{part, at_front, at_after}
 use Rattle.product.proofs.RowLaws.{summed_cong}
 
 module _ {S M : Type 0} (means : S → M) (o : Ops M) (a : M) where

@@ -5,7 +5,7 @@ use Rattle.std.proofs.lemmas.List.{length-take-le}
 use Rattle.std.proofs.lemmas.Bool.{cases_lt}
 use Rattle.scalar.specs.Ops.{Ops}
 use Rattle.scalar.specs.Sums.{at}
-use Rattle.scalar.proofs.Stored.{at_read, at_same}
+use Rattle.scalar.proofs.Stored.{at_read, at_same, at_part}
 use Rattle.shape.specs.Shapes.{start, cell}
 use Rattle.shape.specs.Lanes.{lane_for}
 use Rattle.shape.specs.Changes.{Changed, RunChanged, LanesBand, meant}
@@ -16,7 +16,7 @@ use Rattle.shape.proofs.Cells.{changed_as, lanes_more}
 use Rattle.shape.proofs.Parts.{Filled, length_part, part_changed}
 use Rattle.product.specs.Tests.{RangeLawful}
 use Rattle.product.specs.Results.{in_block, row_of, broadcast, cell_gained, GerCols}
-use Rattle.product.proofs.Entries.{part, at_part, at_front}
+use Rattle.product.proofs.Entries.{part, at_front}
 use Rattle.product.proofs.RowLaws.{spread_in}
 
 -- a run written after the entries below its start

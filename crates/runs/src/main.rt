@@ -89,15 +89,6 @@ fn steps() -> [StepRecord; STEPS] {
     ]
 }
 
-/// Three slices lent as the parts of a state or of weights.
-fn lend<'a, S>(table: &'a mut [S], first: &'a mut [S], second: &'a mut [S]) -> Parts<&'a mut [S]> {
-    Parts {
-        table,
-        first,
-        second,
-    }
-}
-
 /// The script in the scalars that `$of` makes of whole numbers: each step's answer, the pairings of
 /// the state at the end with the weights, and of the state at the beginning with the weights carried
 /// back.
@@ -121,8 +112,8 @@ macro_rules! outcome {
         let (mut e, mut p, mut q) = weights;
         let mut sums = [$zero; 6];
         let mut work = [$zero; 8];
-        let mut lent = lend(&mut d, &mut u, &mut v);
-        let mut lent_weights = lend(&mut e, &mut p, &mut q);
+        let mut lent = Parts::lend(&mut d, &mut u, &mut v);
+        let mut lent_weights = Parts::lend(&mut e, &mut p, &mut q);
         run_script(
             SHAPE,
             script,

@@ -1,6 +1,6 @@
 -- From a stored value to what it means at its place in a memory. Assumes nothing.
-use Rattle.std.proofs.Common.{◌≡◌, ℕ, ◌<◌, List, [], ◌∷◌, length, get_or, sym, ap, ◌∙◌, arith}
-use Rattle.std.proofs.lemmas.List.{get_or-map}
+use Rattle.std.proofs.Common.{◌≡◌, ℕ, ◌+◌, ◌-◌, ◌<◌, ◌≤◌, List, [], ◌∷◌, length, get_or, take, drop, sym, ap, ◌∙◌, arith, rules}
+use Rattle.std.proofs.lemmas.List.{get_or-map, places}
 use Rattle.scalar.specs.Ops.{Ops}
 use Rattle.scalar.specs.Sums.{at}
 
@@ -21,3 +21,9 @@ module _ {S M : Type 0} (means : S → M) (o : Ops M) where
   pub at_is : (xs : List S) (k : ℕ) (m : M) → k < length xs → ((d : S) → means (get_or xs k d) ≡ m) → at means o xs k ≡ m
   at_is [] k m h e = absurd (omega arith)
   at_is (x ∷ xs) k m h e = at_get (x ∷ xs) k x h ∙ e x
+
+  -- entry i of the k entries that are lent from place a on
+  pub at_part : (a k i : ℕ) (xs : List S) → a + k ≤ length xs → i < k → at means o (take ((a + k) - a) (drop a xs)) i ≡ at means o xs (a + i)
+  at_part a k i xs fits below =
+      let long : length (take ((a + k) - a) (drop a xs)) ≡ k = search (rules, places) in
+      at_same (take ((a + k) - a) (drop a xs)) xs i (a + i) (omega arith) (omega arith) (λ d. search (rules, places))

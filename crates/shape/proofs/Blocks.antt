@@ -1,5 +1,5 @@
 -- Blocks of r entries in a memory: where they lie, and that no two meet. Assumes nothing.
-use Rattle.std.proofs.Common.{◌≡◌, ℕ, ◌+◌, ◌-◌, ◌*◌, ◌<◌, ◌≤◌, ◌⊎◌, sym, ap, ◌∙◌, inl, inr, mul-le-mul_right, mul_assoc, mul_comm, add-mul, arith}
+use Rattle.std.proofs.Common.{◌≡◌, ℕ, ◌+◌, ◌-◌, ◌*◌, ◌%◌, ◌<◌, ◌≤◌, ◌⊎◌, sym, ap, ◌∙◌, inl, inr, mul-le-mul, mul-le-mul_right, mod-eq_of_lt, mul_assoc, mul_comm, add-mul, arith}
 use lib.Arith.{digits_lt}
 use Rattle.std.proofs.lemmas.Nat.{div_below}
 use Rattle.std.proofs.lemmas.Bool.{cases_lt, cases_order}
@@ -69,3 +69,12 @@ band_apart t l c n b j i within m k out = elim (cases_lt (b * t.cols + j) (l * t
 -- the lane that is read is one of the source's
 pub lane_below : (b s n : ℕ) → 0 < s → b < n → lane_for b s n < s
 lane_below b s n h l = div_below (b * s) n s (omega arith) (let m = block_fits b n s l in omega (arith, mul_comm s n))
+
+-- within the limits of a shape no product or sum on the way to a start wraps
+pub start_wraps : (t : TableShape) (len b c : ℕ) → Fits t len → c ≤ t.cols → b < t.lanes → (b * t.cols % 18446744073709551616 + c) % 18446744073709551616 * t.rows % 18446744073709551616 ≡ start t b c
+start_wraps t len b c fits col lane =
+    let lanes : b * t.cols ≤ 4096 * 1024 = mul-le-mul {n₂ = 4096} {m₂ = 1024} (omega (arith, fits.few_lanes)) fits.few_cols in
+    let whole : (b * t.cols + c) * t.rows ≤ (4096 * 1024 + 1024) * 65536 = mul-le-mul {n₂ = 4096 * 1024 + 1024} {m₂ = 65536} (omega (arith, fits.few_cols)) fits.few_rows in
+    let none = mod-eq_of_lt {n = b * t.cols} {m = 18446744073709551616} (omega arith) in
+    let some = mod-eq_of_lt {n = b * t.cols + c} {m = 18446744073709551616} (omega arith) in
+    ap (λ z. (z + c) % 18446744073709551616 * t.rows % 18446744073709551616) none ∙ ap (λ z. z * t.rows % 18446744073709551616) some ∙ mod-eq_of_lt (omega arith)

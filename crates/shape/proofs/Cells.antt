@@ -47,17 +47,22 @@ module _ {S : Type 0} (t : TableShape) where
 
   -- ---- a loop over the lanes, a band a lane
 
+  -- the lanes below l, and then lane l
+  pub lane_more : (l c n : ℕ) (P Q : ℕ → ℕ → ℕ → S → Type 0) (old cur cur' : List S)
+      → ((j i : ℕ) (v : S) → In t l j i → c ≤ j → j < c + n → Q l j i v → P l j i v)
+      → Changed t (LanesBand l c n) P old cur → Changed t (LaneBand l c n) Q cur cur' → Changed t (LanesBand (l + 1) c n) P old cur'
+  lane_more l c n P Q old cur cur' agree =
+      changed_more (LanesBand l c n) (LaneBand l c n) (LanesBand (l + 1) c n) P Q old cur cur'
+      (λ b j i w h. elim (cases_eq b l) [ inl e ↦ inl (e, h.1, h.2) | inr ne ↦ inr ((λ x. ne x.0), (omega arith, h.1, h.2)) ])
+      (λ b j i h. (omega arith, h.1, h.2))
+      (λ b j i w h. (omega arith, h.1, h.2))
+      (λ b j i v w h q. rw h.0 (agree j i v (record { lane = omega (arith, w.lane); col = w.col; row = w.row }) h.1 h.2 (rw h.0 at q)))
+
   pub lanes_more : (l c n a : ℕ) (P : ℕ → ℕ → ℕ → S → Type 0) (Q : ℕ → S → Type 0) (old cur cur' : List S) → a ≡ start t l c → c + n ≤ t.cols
       → ((j i : ℕ) (v : S) → In t l j i → c ≤ j → j < c + n → Q ((j - c) * t.rows + i) v → P l j i v)
       → Changed t (LanesBand l c n) P old cur → RunChanged a (n * t.rows) Q cur cur' → Changed t (LanesBand (l + 1) c n) P old cur'
   lanes_more l c n a P Q old cur cur' at_a within agree before wrote =
-      changed_more (LanesBand l c n) (LaneBand l c n) (LanesBand (l + 1) c n) P (λ b j i. Q ((j - c) * t.rows + i)) old cur cur'
-      (λ b j i w h. elim (cases_eq b l) [ inl e ↦ inl (e, h.1, h.2) | inr ne ↦ inr ((λ x. ne x.0), (omega arith, h.1, h.2)) ])
-      (λ b j i h. (omega arith, h.1, h.2))
-      (λ b j i w h. (omega arith, h.1, h.2))
-      (λ b j i v w h q. rw h.0 (agree j i v (record { lane = omega (arith, w.lane); col = w.col; row = w.row }) h.1 h.2 q))
-      before
-      (band_changed l c n a Q cur cur' at_a within wrote)
+      lane_more l c n P (λ b j i. Q ((j - c) * t.rows + i)) old cur cur' agree before (band_changed l c n a Q cur cur' at_a within wrote)
 
   pub lanes_all : (l c n : ℕ) (P : ℕ → ℕ → ℕ → S → Type 0) (old cur : List S) → t.lanes ≤ l → Changed t (LanesBand l c n) P old cur → Changed t (InBand c n) P old cur
   lanes_all l c n P old cur end done =

@@ -83,11 +83,16 @@ pub fn check_column(v: Column, len: usize) -> Result<(), Refusal>
 }
 
 /// The tests that every call on two columns begins with, and what passing them tells.
-pub fn check_two(x: Column, x_len: usize, y: Column, y_len: usize) -> Result<(), Refusal>
-    ensures verdict { answer result ≡ first_of (two_tests x x_len y y_len) }
-    ensures lawful { OnOk result (TwoLawful x x_len y y_len) }
+pub fn check_two(
+    first: Column,
+    first_len: usize,
+    second: Column,
+    second_len: usize,
+) -> Result<(), Refusal>
+    ensures verdict { answer result ≡ first_of (two_tests first first_len second second_len) }
+    ensures lawful { OnOk result (TwoLawful first first_len second second_len) }
 {
-    refuse_columns!(x, x_len; y, y_len);
+    refuse_columns!(first, first_len; second, second_len);
     Ok(())
 }
 

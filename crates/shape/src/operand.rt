@@ -83,6 +83,7 @@ impl Column {
 impl Band {
     /// Where a lane's run starts. It wraps, so it answers for every shape; what it answers is
     /// promised for the lanes of a shape that fits its memory.
+    #[tactic(auto, using(crate::proofs::Blocks::start_wraps))]
     pub fn start(self, lane: usize) -> usize
         ensures { (len : ℕ) → Fits self.of len → self.first ≤ self.of.cols → lane < self.of.lanes → result ≡ start self.of lane self.first }
     {

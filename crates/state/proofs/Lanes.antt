@@ -6,18 +6,12 @@ use native.Mathlib.Omega.{arith}
 use lib.ListN.{length, get_or}
 use Rattle.scalar.specs.Ops.{Ops}
 use Rattle.scalar.specs.Sums.{at}
-use Rattle.scalar.proofs.Stored.{at_get, at_same, at_is}
+use Rattle.scalar.proofs.Stored.{at_get, at_is}
 use Rattle.shape.specs.Shapes.{cell, In, Fits, Lawful}
-use Rattle.shape.specs.Lanes.{lane_for}
 use Rattle.shape.specs.Changes.{Changed, meant}
 use Rattle.shape.specs.declared.operand.TableShape.{TableShape}
 use Rattle.shape.proofs.Blocks.{cell_fits}
-use Rattle.shape.proofs.Passes as shape
 use Rattle.state.specs.Memory.{vector_of}
-
--- a lane of a source with as many lanes reads its own
-pub own_lane : (b s n : ℕ) → s ≡ n → b < n → lane_for b s n ≡ b
-own_lane b s n e h = shape.own_lane b s n e (omega (arith, h))
 
 module _ {S M : Type 0} (means : S → M) (o : Ops M) (t : TableShape) (old cur : List S) (fits : Fits t (length old)) (same : length cur ≡ length old) where
   -- a cell that was written means what was said of it
@@ -25,12 +19,6 @@ module _ {S M : Type 0} (means : S → M) (o : Ops M) (t : TableShape) (old cur 
   cell_written D new b j i c w h =
       let f = cell_fits t (length old) b j i fits w in
       at_is means o cur (cell t b j i) (new b j i) (omega arith) (λ d. c.written b j i d w h)
-
-  -- and one that was not means what it meant
-  pub cell_kept : (D : ℕ → ℕ → ℕ → Type 0) (P : ℕ → ℕ → ℕ → S → Type 0) (b j i : ℕ) → Changed t D P old cur → In t b j i → (D b j i → ⊥) → at means o cur (cell t b j i) ≡ at means o old (cell t b j i)
-  cell_kept D P b j i c w h =
-      let f = cell_fits t (length old) b j i fits w in
-      at_same means o cur old (cell t b j i) (cell t b j i) (omega arith) f (λ d. c.kept b j i d w h)
 
   -- a cell whose stored value was made of the stored value at place k of xs and of its own old one
   pub cell_made : (F : M → M → M) (xs : List S) (k b j i : ℕ) → In t b j i → k < length xs

@@ -1,3 +1,4 @@
+pub mod Beyond
 pub mod Lanes
 pub mod Records
 pub mod Loans

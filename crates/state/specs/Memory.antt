@@ -21,6 +21,10 @@ pub record Memory (S : Type 0) : Type 0 where
 abbrev pub memory : {S : Type 0} → List S → List S → List S → Memory S
 memory ds us vs = record { table = ds; first = us; second = vs }
 
+-- three lent slices together
+abbrev pub lent : {S : Type 0} → MutBor (List S) → MutBor (List S) → MutBor (List S) → Parts (MutBor (List S))
+lent t x y = record { table = t; first = x; second = y }
+
 -- what lent memory and shared memory hold
 abbrev pub held : {S : Type 0} → Parts (MutBor (List S)) → Memory S
 held p = memory p.table.now p.first.now p.second.now

@@ -1,7 +1,7 @@
 //! The parts of a state or of weights, lent, shared or by their lengths, and the tests of them.
 ghost use Rattle.std.specs.Prelude.{◌≡◌, OnOk};
 ghost use Rattle.shape.specs.Refusals.{answer, first_of};
-ghost use Rattle.state.specs.Memory.{held, shown, lengths, parts_tests, Holds};
+ghost use Rattle.state.specs.Memory.{lent, held, shown, lengths, parts_tests, Holds};
 
 use shape::check::{check_shape, misfits};
 use shape::{Column, Refusal, TableShape};
@@ -13,6 +13,19 @@ pub struct Parts<T> {
     pub table: T,
     pub first: T,
     pub second: T,
+}
+
+impl<'a, S> Parts<&'a mut [S]> {
+    /// Three slices lent as the parts of a state or of weights: D, u and v, or E, p and q.
+    pub fn lend(table: &'a mut [S], first: &'a mut [S], second: &'a mut [S]) -> Self
+        ensures { result ≡ lent table.entry first.entry second.entry }
+    {
+        Parts {
+            table,
+            first,
+            second,
+        }
+    }
 }
 
 impl<S> Parts<&mut [S]> {

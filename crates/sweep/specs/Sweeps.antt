@@ -22,9 +22,13 @@ Placed p (Err f) = f.place ≡ p
 abbrev pub blank : StepRecord
 blank = record { kind = Update 0; numbers_at = 0; number_count = 0; list_at = 0; list_count = 0 }
 
+-- the record at a place of a script
+abbrev pub record_at : {S : Type 0} → Script S → ℕ → StepRecord
+record_at script place = slice_index_or script.steps.now place blank
+
 -- the step at a place of a script, and all steps of it, with the script's numbers and indices
 abbrev pub step_at : {S M : Type 0} → (S → M) → Script S → ℕ → Step M
-step_at means script place = step_of means (slice_index_or script.steps.now place blank) script
+step_at means script place = step_of means (record_at script place) script
 
 abbrev pub steps_of : {S M : Type 0} → (S → M) → Script S → List (Step M)
 steps_of means script = map (λ x. step_of means x script) script.steps.now

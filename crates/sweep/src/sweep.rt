@@ -3,9 +3,10 @@ ghost use Rattle.std.specs.Prelude.{◌≡◌, ◌+◌, ◌-◌, ◌<◌, ◌≤
 ghost use Rattle.shape.specs.Refusals.{answer, first_of};
 ghost use Rattle.steps.specs.Lanes.{StepForward, StepBack};
 ghost use Rattle.state.specs.Memory.{held, SameLoan, lengths, lane_of};
+ghost use Rattle.state.specs.Reach.{KeptBeyond, reach_forward, reach_back};
 ghost use Rattle.forward.specs.Tests.{memory_tests};
 ghost use Rattle.backward.specs.Tests.{weights_tests};
-ghost use Rattle.sweep.specs.Sweeps.{answered, Placed, step_at};
+ghost use Rattle.sweep.specs.Sweeps.{answered, Placed, record_at, step_at};
 ghost use Rattle.sweep.specs.Tests.{open_tests, forward_tests, back_tests};
 
 use crate::fault::StepFault;
@@ -96,6 +97,7 @@ impl Sweep {
         ensures place { Placed self.old.taken result }
         ensures waits { (first_of (forward_tests self.old (length script.entry.steps.now) (lengths (held state.old)) (length work.old)) ≢ 0) → (answered result ≡ first_of (forward_tests self.old (length script.entry.steps.now) (lengths (held state.old)) (length work.old))) × (self.new.taken ≡ self.old.taken) }
         ensures next { first_of (forward_tests self.old (length script.entry.steps.now) (lengths (held state.old)) (length work.old)) ≡ 0 → (self.new.taken ≡ self.old.taken + 1) × StepForward S.ops self.old.shape.rows self.old.shape.cols self.old.shape.lanes (lane_of S.means S.ops self.old.shape) (step_at S.means script.entry self.old.taken) (answered result) (held state.old) (held state.new) }
+        ensures kept { KeptBeyond self.old.shape (reach_forward (record_at script.entry self.old.taken).kind) (held state.old) (held state.new) }
         ensures refused { OnErr result ((held state.new ≡ held state.old) × (work.new ≡ work.old)) }
     {
         let place = self.taken;
@@ -135,6 +137,7 @@ impl Turned {
         ensures place { Placed (self.old.left - 1) result }
         ensures waits { (first_of (back_tests self.old (length script.entry.steps.now) (lengths (held weights.old)) (length ws.old) (length work.old)) ≢ 0) → (answered result ≡ first_of (back_tests self.old (length script.entry.steps.now) (lengths (held weights.old)) (length ws.old) (length work.old))) × (self.new.left ≡ self.old.left) }
         ensures next { first_of (back_tests self.old (length script.entry.steps.now) (lengths (held weights.old)) (length ws.old) (length work.old)) ≡ 0 → (self.old.left ≡ self.new.left + 1) × StepBack S.ops self.old.shape.rows self.old.shape.cols self.old.shape.lanes (lane_of S.means S.ops self.old.shape) (step_at S.means script.entry self.new.left) (answered result) (held weights.old) (held weights.new) }
+        ensures kept { KeptBeyond self.old.shape (reach_back (record_at script.entry (self.old.left - 1)).kind) (held weights.old) (held weights.new) }
         ensures refused { OnErr result ((held weights.new ≡ held weights.old) × (ws.new ≡ ws.old) × (work.new ≡ work.old)) }
     {
         let place = self.left.saturating_sub(1);

@@ -1,4 +1,5 @@
 //! Pairings, and a script forward and back.
+use by_hand::run_first;
 use pairing::pairings;
 use scalar::Wrap;
 use shape::{Refusal, TableShape};
@@ -20,18 +21,6 @@ fn step(kind: Kind, number_count: usize, list_count: usize) -> StepRecord {
         number_count,
         list_at: 0,
         list_count,
-    }
-}
-
-fn lend<'a>(
-    table: &'a mut [Wrap],
-    first: &'a mut [Wrap],
-    second: &'a mut [Wrap],
-) -> Parts<&'a mut [Wrap]> {
-    Parts {
-        table,
-        first,
-        second,
     }
 }
 
@@ -78,8 +67,8 @@ fn a_run_keeps_the_pairing(rt: HostRuntime) -> Result<(), Fail> {
     let mut sums = [Wrap(0)];
     let mut work = [Wrap(0); 8];
     let mut answers = [Ok(()); 4];
-    let mut state = lend(&mut d, &mut u, &mut v);
-    let mut weights = lend(&mut e, &mut p, &mut q);
+    let mut state = Parts::lend(&mut d, &mut u, &mut v);
+    let mut weights = Parts::lend(&mut e, &mut p, &mut q);
     run_script(
         SHAPE,
         script,
@@ -145,7 +134,7 @@ fn a_sweep_with_no_step_left(rt: HostRuntime) -> Result<(), Fail> {
     let mut v = [Wrap(0)];
     let mut work = [Wrap(0); 8];
     let mut sweep = Sweep::open(SHAPE).map_err(|_| Fail::new("refused"))?;
-    let mut state = lend(&mut d, &mut u, &mut v);
+    let mut state = Parts::lend(&mut d, &mut u, &mut v);
     match sweep.step(script, &mut state, &mut work) {
         Ok(()) => Err(Fail::new("taken")),
         Err(fault) => {
@@ -154,4 +143,49 @@ fn a_sweep_with_no_step_left(rt: HostRuntime) -> Result<(), Fail> {
             Ok(())
         }
     }
+}
+
+#[test]
+fn the_first_steps_by_hand(rt: HostRuntime) -> Result<(), Fail> {
+    let steps = [
+        step(Kind::Update { order: 0 }, 0, 0),
+        step(Kind::Scale, 1, 0),
+        step(Kind::Copy, 0, 0),
+    ];
+    let numbers = [Wrap(3)];
+    let script = Script {
+        steps: &steps,
+        numbers: &numbers,
+        indices: &[],
+    };
+    let mut d = [Wrap(2), Wrap(3), Wrap(5)];
+    let mut u = [Wrap(7)];
+    let mut v = [Wrap(0)];
+    let mut e = [Wrap(1), Wrap(10), Wrap(100)];
+    let mut p = [Wrap(4)];
+    let mut q = [Wrap(6)];
+    let mut sums = [Wrap(0)];
+    let mut work = [Wrap(0); 8];
+    let mut answers = [Err(Refusal::NoStep); 2];
+    let mut state = Parts::lend(&mut d, &mut u, &mut v);
+    let mut weights = Parts::lend(&mut e, &mut p, &mut q);
+    run_first(
+        SHAPE,
+        script,
+        &mut state,
+        &mut weights,
+        &mut sums,
+        &mut work,
+        &mut answers,
+    )?;
+    // The copy is not taken, so v is as it was, and its weight q too.
+    assert_eq!(rt; d[0].0, 9);
+    assert_eq!(rt; u[0].0, 21);
+    assert_eq!(rt; v[0].0, 0);
+    assert!(rt; answers[1].is_ok());
+    // Back: p is 4·3 and the sum 111 of the weights' columns.
+    assert_eq!(rt; p[0].0, 123);
+    assert_eq!(rt; q[0].0, 6);
+    assert_eq!(rt; e[0].0, 1);
+    Ok(())
 }

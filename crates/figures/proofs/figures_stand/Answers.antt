@@ -18,7 +18,9 @@ returns c = record {
   eight_pass = refl;
   nine_refused = refl;
   order_six = refl;
+  order_six_step = refl;
   scatter_first = refl;
   scatter_second = refl;
+  gather_first = refl;
   gather_second = refl;
 }

@@ -2,7 +2,7 @@ use Rattle.std.proofs.Common.{ap, ◌∙◌, ap₂}
 use Rattle.scalar.specs.Sums.{sum_from}
 use Rattle.scalar.proofs.SumLaws.{sum_same}
 use Rattle.shape.proofs.Parts.{length_part}
-use Rattle.product.proofs.Entries.{at_part}
+use Rattle.scalar.proofs.Stored.{at_part}
 use Rattle.pairing.proofs.add_part.Goals as goal
 
 pub returns : goal.returns

@@ -5,10 +5,11 @@ use Rattle.state.specs.Memory.{vector_of}
 use Rattle.state.proofs.Lanes.{vector_in}
 use Rattle.forward.proofs.Families.{column_put}
 use Rattle.backward.proofs.Moves.{added}
+use Rattle.state.proofs.Beyond.{column_kept}
 use Rattle.backward.proofs.columns.add_column_back.Goals as goal
 
-pub returns : goal.returns
-returns g c =
+pub returns-clause-back : goal.returns-clause-back
+returns-clause-back g c =
     let s = g.S.Scalar in
     let t = c.args.t in
     let es = c.args.es.now in
@@ -20,3 +21,6 @@ returns g c =
       first = λ i h. refl;
       second = λ i h. refl;
     }
+
+pub returns-clause-kept : goal.returns-clause-kept
+returns-clause-kept g c = column_kept c.args.t c.args.j c.column.result _ c.args.es.now c.add_assign.new.ys c.add_assign.result c.column.ensures c.add_assign.ensures.accepted c.add_assign.ensures.refused

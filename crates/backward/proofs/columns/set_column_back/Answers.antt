@@ -5,10 +5,11 @@ use Rattle.state.specs.Memory.{vector_of}
 use Rattle.state.proofs.Lanes.{vector_in}
 use Rattle.forward.proofs.Families.{column_put}
 use Rattle.backward.proofs.Moves.{added, filled}
+use Rattle.state.proofs.Beyond.{column_kept}
 use Rattle.backward.proofs.columns.set_column_back.Goals as goal
 
-pub returns : goal.returns
-returns g c =
+pub returns-clause-back : goal.returns-clause-back
+returns-clause-back g c =
     let s = g.S.Scalar in
     let t = c.args.t in
     let es = c.args.es.now in
@@ -22,3 +23,6 @@ returns g c =
       first = λ i h. first.rows b i l h;
       second = λ i h. refl;
     }
+
+pub returns-clause-kept : goal.returns-clause-kept
+returns-clause-kept g c = column_kept c.args.t c.args.j c.column-column.result _ c.args.es.now c.fill.new.ys c.fill.result c.column-column.ensures c.fill.ensures.accepted c.fill.ensures.refused

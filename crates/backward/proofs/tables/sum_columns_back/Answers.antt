@@ -8,10 +8,11 @@ use Rattle.state.proofs.Lanes.{vector_in}
 use Rattle.state.specs.Memory.{vector_of}
 use Rattle.backward.proofs.Moves.{rows, scaled}
 use Rattle.backward.proofs.TableMoves.{spread_lane}
+use Rattle.state.proofs.Beyond.{columns_kept}
 use Rattle.backward.proofs.tables.sum_columns_back.Goals as goal
 
-pub returns : goal.returns
-returns g c =
+pub returns-clause-back : goal.returns-clause-back
+returns-clause-back g c =
     let s = g.S.Scalar in
     let t = c.args.t in
     let v = vector_of t in
@@ -34,3 +35,8 @@ returns g c =
       first = λ i h. first.rows b i l h ∙ ap (λ z. s.ops.times (p b i) z) (sym read-b);
       second = λ i h. refl;
     }
+
+pub returns-clause-kept : goal.returns-clause-kept
+returns-clause-kept g c =
+    let call = c.ger_cols in
+    columns_kept c.args.t c.args.start (c.args.end - c.args.start) c.args.es.now call.new.ts call.result (λ done. done.kept) (λ left. left) call.ensures.accepted call.ensures.refused

@@ -1,14 +1,15 @@
 use Rattle.shape.proofs.Answered.{on_ok}
-use Rattle.std.proofs.Common.{length, refl, ap, ◌∙◌}
+use Rattle.std.proofs.Common.{◌+◌, length, refl, ap, ◌∙◌}
 use Rattle.shape.specs.Shapes.{Lawful}
 use Rattle.state.proofs.Lanes.{vector_in}
 use Rattle.state.specs.Memory.{vector_of}
 use Rattle.backward.proofs.Moves.{rows, added}
 use Rattle.backward.proofs.TableMoves.{transposed_lane}
+use Rattle.state.proofs.Beyond.{columns_kept}
 use Rattle.backward.proofs.tables.update_back.Goals as goal
 
-pub returns : goal.returns
-returns g c =
+pub returns-clause-back : goal.returns-clause-back
+returns-clause-back g c =
     let s = g.S.Scalar in
     let t = c.args.t in
     let v = vector_of t in
@@ -25,3 +26,8 @@ returns g c =
       first = λ i h. first.rows b i l h ∙ ap (λ z. s.ops.plus (rows s.means s.ops v ps b i) z) (both.sums b i l h);
       second = λ i h. refl;
     }
+
+pub returns-clause-kept : goal.returns-clause-kept
+returns-clause-kept g c =
+    let call = c.update_backward_diff_transpose in
+    columns_kept c.args.t 0 (c.args.order + 3) c.args.es.now call.new.ts call.result (λ done. done.columns.kept) (λ left. left.0) call.ensures.accepted call.ensures.refused

@@ -1,6 +1,6 @@
 use Rattle.std.proofs.Common.{◌∙◌, arith}
 use Rattle.shape.specs.Changes.{LanesBand}
-use Rattle.differences.proofs.Pieces.{lane_more}
+use Rattle.shape.proofs.Cells.{lane_more}
 use Rattle.differences.proofs.MulColsLaws.{multiplied_kept}
 use Rattle.differences.proofs.multiply.multiply_lanes.Goals as goal
 

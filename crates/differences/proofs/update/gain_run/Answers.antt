@@ -1,7 +1,8 @@
 use Rattle.std.proofs.Common.{◌+◌, ◌≤◌, length, rules, ap, ap₂, ◌∙◌, arith}
 use Rattle.scalar.specs.Sums.{at}
 use Rattle.shape.proofs.Parts.{length_part, part_changed}
-use Rattle.product.proofs.Entries.{at_part, at_front, at_after}
+use Rattle.scalar.proofs.Stored.{at_part}
+use Rattle.product.proofs.Entries.{at_front, at_after}
 use Rattle.differences.proofs.Runs.{run_front}
 use Rattle.differences.proofs.update.gain_run.Goals as goal
 

@@ -1,16 +1,16 @@
 use Rattle.std.proofs.Common.{◌≡◌, ℕ, ◌+◌, ◌-◌, length, sym, ap, ap₂, ◌∙◌, inl, inr, arith}
 use Rattle.std.proofs.lemmas.Bool.{cases_eq}
 use Rattle.scalar.specs.Sums.{at}
-use Rattle.scalar.proofs.Stored.{at_is}
+use Rattle.scalar.proofs.Stored.{at_is, at_part}
 use Rattle.shape.specs.Shapes.{start, cell, In}
 use Rattle.shape.specs.Changes.{Changed, LaneBand, meant}
 use Rattle.shape.proofs.Blocks.{band_fits, cell_fits}
 use Rattle.shape.proofs.Parts.{length_part}
-use Rattle.product.proofs.Entries.{at_part}
 use Rattle.shape.proofs.Cells.{changed_as, changed_more}
 use Rattle.product.specs.Results.{row_of}
 use Rattle.differences.specs.Updates.{cell_updated_by}
-use Rattle.differences.proofs.Pieces.{column_start, start_next, column_changed, rest_means}
+use Rattle.product.proofs.Entries.{cell_kept}
+use Rattle.differences.proofs.Pieces.{column_start, start_next, column_changed}
 use Rattle.differences.proofs.RowLaws.{accumulated_updated, updated_last}
 use Rattle.differences.proofs.update.update_lane.Goals as goal
 
@@ -61,7 +61,7 @@ returns g c =
     let fits = cell_fits t (length old) b (k + 2) i c.requires.fits there in
     q ∙ accumulated_updated s.ops x (row_of s.means s.ops t mid b i) d k j
     (at_is s.means s.ops mid (cell t b (k + 2) i) _ (omega (arith, c.difference_run.auto.ts)) (λ e. last.written b (k + 2) i e there (h.0, omega arith, omega arith)) ∙ updated_last s.ops x d k)
-    (λ l n. rest_means s.means s.ops t (LaneBand lane (k + 2) 1) _ old mid c.requires.fits c.difference_run.auto.ts last b l i (record { lane = w.lane; col = omega arith; row = w.row }) (λ z. omega arith))
+    (λ l n. cell_kept s.means s.ops t (LaneBand lane (k + 2) 1) _ old mid c.requires.fits c.difference_run.auto.ts last b l i (record { lane = w.lane; col = omega arith; row = w.row }) (λ z. omega arith))
     (omega arith))
     last
     c.accumulate_lane.ensures

@@ -3,7 +3,8 @@ use Rattle.scalar.specs.Sums.{at}
 use Rattle.shape.specs.Changes.{LanesBand}
 use Rattle.shape.proofs.Broadcast.{reads_from, reads_within}
 use Rattle.product.specs.Results.{row_of}
-use Rattle.differences.proofs.Pieces.{lane_more, rest_means}
+use Rattle.product.proofs.Entries.{cell_kept}
+use Rattle.shape.proofs.Cells.{lane_more}
 use Rattle.differences.proofs.RowLaws.{updated_cong}
 use Rattle.differences.proofs.update.update_lanes.Goals as goal
 
@@ -26,7 +27,7 @@ loop-lane-preserved g c =
     lane_more t n 0 (k + 3) _ _ old cur c.update_lane.new.ts
     (λ j i v w low high q.
     q ∙ updated_cong s.ops (row_of s.means s.ops t cur n i) (row_of s.means s.ops t old n i) _ _ k j (omega arith)
-    (λ l less. rest_means s.means s.ops t (LanesBand n 0 (k + 3)) _ old cur c.requires.fits c.loop-lane.auto.ts c.loop-lane.invariant n l i (record { lane = w.lane; col = omega arith; row = w.row }) (λ x. omega arith))
+    (λ l less. cell_kept s.means s.ops t (LanesBand n 0 (k + 3)) _ old cur c.requires.fits c.loop-lane.auto.ts c.loop-lane.invariant n l i (record { lane = w.lane; col = omega arith; row = w.row }) (λ x. omega arith))
     (ap (λ a. at s.means s.ops ds (a + i)) from))
     c.loop-lane.invariant
     c.update_lane.ensures

@@ -4,10 +4,11 @@ use Rattle.shape.specs.Shapes.{column_of}
 use Rattle.state.specs.Memory.{vector_of}
 use Rattle.state.proofs.Lanes.{vector_in}
 use Rattle.forward.proofs.Families.{zipped, column_put}
+use Rattle.state.proofs.Beyond.{column_kept}
 use Rattle.forward.proofs.tables.set_col_step.Goals as goal
 
-pub returns : goal.returns
-returns g c = λ vs b l.
+pub returns-clause-forward : goal.returns-clause-forward
+returns-clause-forward g c = λ vs b l.
     let s = g.S.Scalar in
     let t = c.args.t in
     let ds = c.args.ds.now in
@@ -20,3 +21,6 @@ returns g c = λ vs b l.
       first = λ i h. refl;
       second = λ i h. refl;
     }
+
+pub returns-clause-kept : goal.returns-clause-kept
+returns-clause-kept g c = column_kept c.args.t c.args.column c.column.result _ c.args.ds.now c.copy_from.new.ys c.copy_from.result c.column.ensures c.copy_from.ensures.accepted c.copy_from.ensures.refused

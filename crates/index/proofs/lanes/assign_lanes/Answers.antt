@@ -4,14 +4,14 @@ use Rattle.shape.proofs.Cells.{column_more, column_all}
 use Rattle.index.specs.Indices.{settled}
 use Rattle.index.proofs.lanes.assign_lanes.Goals as goal
 
-pub assign_part-requires : goal.assign_part-requires
-assign_part-requires g c =
+pub assign_part-requires-clause-target : goal.assign_part-requires-clause-target
+assign_part-requires-clause-target g c =
     let y = c.args.y in
     let yl = length c.args.ys.now in
     let l = c.loop-lane-test.true in
     let to = c.start.ensures yl c.requires.target l in
     let t = band_fits y.of yl c.loop-lane.lane y.col 1 c.requires.target.fits l (omega (arith, c.requires.target.within)) in
-    record { inside = c.requires.inside; target = omega arith }
+    omega arith
 
 pub loop-lane-preserved : goal.loop-lane-preserved
 loop-lane-preserved g c =

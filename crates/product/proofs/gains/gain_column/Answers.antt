@@ -1,8 +1,7 @@
 use Rattle.std.proofs.Common.{length, ◌∙◌, arith}
 use Rattle.std.proofs.lemmas.List.{get_or_default}
-use Rattle.scalar.proofs.Stored.{at_get}
+use Rattle.scalar.proofs.Stored.{at_get, at_part}
 use Rattle.shape.proofs.Parts.{length_part, part_changed}
-use Rattle.product.proofs.Entries.{at_part}
 use Rattle.product.proofs.gains.gain_column.Goals as goal
 
 pub returns : goal.returns

@@ -1,7 +1,6 @@
 use Rattle.std.proofs.Common.{length, arith}
 use Rattle.std.proofs.lemmas.List.{get_or_default}
-use Rattle.scalar.proofs.Stored.{at_get}
-use Rattle.product.proofs.Entries.{at_part}
+use Rattle.scalar.proofs.Stored.{at_get, at_part}
 use Rattle.product.proofs.sums.add_column.Goals as goal
 
 pub returns : goal.returns

@@ -5,7 +5,7 @@ use Rattle.shape.specs.Lanes.{lane_for}
 use Rattle.shape.specs.declared.operand.Column.{Column}
 use Rattle.shape.proofs.Blocks.{band_fits}
 use Rattle.shape.proofs.Broadcast.{reads_from, reads_within}
-use Rattle.shape.proofs.Cells.{column_more, column_all}
+use Rattle.shape.proofs.Cells.{column_more}
 use Rattle.vector.specs.Rows.{blend}
 use Rattle.vector.proofs.batch.batched_lanes.Goals as goal
 
@@ -65,6 +65,3 @@ loop-lane-preserved g c =
     ∙ ap (λ z. blend s.ops (s.means (get_or fs (cell f.of lane f.col 0) d)) (s.means (get_or xs (cell x.of (lane_for lane x.of.lanes y.of.lanes) x.col i) d)) beta (s.means z)) target)
     c.loop-lane.invariant
     c.axpy_part.ensures
-
-pub returns : goal.returns
-returns g c = column_all _ _ _ _ _ _ c.loop-lane-test.false c.loop-lane.invariant
