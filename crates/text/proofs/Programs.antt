@@ -1,5 +1,5 @@
 -- A program that holds what lines say is a task that is written as they say. Assumes nothing.
-use Rattle.std.proofs.Common.{◌≡◌, ℕ, ◌+◌, ◌-◌, ◌*◌, ◌<◌, ◌≤◌, ℤ, pos, List, length, get_or, take, drop, ap, ap₂, ◌∙◌, arith}
+use Rattle.std.proofs.Common.{◌≡◌, ℕ, refl, ◌+◌, ◌-◌, ◌*◌, ◌<◌, ◌≤◌, ℤ, pos, List, length, get_or, drop, ap, ap₂, ◌∙◌, arith}
 use Rattle.std.proofs.lemmas.List.{get_or-map, get_or-take, get_or-drop}
 use Rattle.scalar.specs.Ops.{Ops}
 use Rattle.scalar.specs.Sums.{at}
@@ -11,7 +11,7 @@ use Rattle.steps.specs.States.{Lane, Alike}
 use Rattle.steps.specs.Steps.{Step}
 use Rattle.sweep.specs.Sweeps.{steps_of}
 use Rattle.exact.specs.Values.{wrap_value, residue_value}
-use Rattle.state.specs.Memory.{memory, shown, lengths, lane_of, vector_of, Holds}
+use Rattle.state.specs.Memory.{shown, lengths, lane_of, vector_of, Holds}
 use Rattle.exact.specs.declared.task.Task.{Task}
 use Rattle.words.specs.declared.Memory.{Memory}
 use Rattle.words.specs.declared.Memory.TheVariants.{D, E, U, V, P, Q}
@@ -22,31 +22,24 @@ use Rattle.reader.specs.Held.{Held, base}
 use Rattle.reader.specs.declared.program.Ring.{Ring}
 use Rattle.reader.specs.declared.program.Ring.TheVariants.{Wrap, Residue}
 use Rattle.text.specs.Answers.{run_lines, steps, state, weights, script_lines}
-use Rattle.text.specs.Solutions.{IsTaskOf, task_lines}
+use Rattle.text.specs.Solutions.{IsTaskOf, values_of, task_lines}
 use Rattle.text.proofs.Scripts.{named_all}
 use Rattle.text.proofs.Solutions.{run_same}
-
-pub memory_same : {S : Type 0} (a a' b b' c c' : List S) → a ≡ a' → b ≡ b' → c ≡ c' → memory a b c ≡ memory a' b' c'
-memory_same a a' b b' c c' p q r = λ i. memory (p i) (q i) (r i)
-
-pub part_from : (a n m : ℕ) (xs : List ℤ) → n ≡ m → take (a + n - a) (drop a xs) ≡ take m (drop a xs)
-part_from a n m xs e = let k : a + n - a ≡ m = omega arith in ap (λ j. take j (drop a xs)) k
-
-pub one_column : (r n : ℕ) → r * n ≡ r * 1 * n
-one_column r n = omega arith
 
 -- ---- cells
 
 module _ {M : Type 0} (o : Ops M) (value : ℤ → M) (ls : List Line) (p : Program) (h : Held ls p) where
   -- a cell of a memory of the shape s that xs has the values of
-  cell_same : (m : Memory) (s : TableShape) (xs : List ℤ) → xs ≡ take (cells s) (drop (base m) p.cells) → Fits s (length xs) → cells s ≤ 1024
+  cell_same : (m : Memory) (s : TableShape) (n : ℕ) (xs : List ℤ) → n ≡ cells s → xs ≡ values_of p m n → Fits s (length xs) → cells s ≤ 1024
       → (b j i : ℕ) → In s b j i → at value o xs (cell s b j i) ≡ value (value_in ls m (cell s b j i))
-  cell_same m s xs e fits few b j i inside =
+  cell_same m s n xs size e fits few b j i inside =
       let k = cell s b j i in
       let l : k < length xs = cell_fits s (length xs) b j i fits inside in
-      let n : k < cells s = (let z = fits.size in omega arith) in
+      let near : k < base m + n - base m = (let z = fits.size in omega arith) in
       get_or-map value xs k (pos 0) o.zero l
-      ∙ ap value (ap (λ ys. get_or ys k (pos 0)) e ∙ get_or-take (cells s) (drop (base m) p.cells) k (pos 0) n ∙ get_or-drop (base m) p.cells k (pos 0) ∙ h.cells m k (omega arith))
+      ∙ ap value
+      (ap (λ ys. get_or ys k (pos 0)) e ∙ get_or-take (base m + n - base m) (drop (base m) p.cells) k (pos 0) near
+      ∙ get_or-drop (base m) p.cells k (pos 0) ∙ h.cells m k (omega arith))
 
   -- lane b of the state and of the weights that the lines give, in memories of the shape t
   abbrev state_by : TableShape → ℕ → Lane M
@@ -68,20 +61,22 @@ module _ {M : Type 0} (o : Ops M) (value : ℤ → M) (ls : List Line) (p : Prog
         → Alike p.shape.rows p.shape.cols (lane_of value o p.shape b (shown x.state)) (state_by p.shape b)
     state_same ok b l =
         let one : 0 < 1 = omega arith in
+        let flat : p.shape.rows * p.shape.lanes ≡ cells (vector_of p.shape).of = omega arith in
         record {
-          table = λ j i c r. cell_same D p.shape x.state.table.now (ap (λ z. z.table) k.state) ok.table few b j i (record { lane = l; col = c; row = r });
-          first = λ i r. cell_same U (vector_of p.shape).of x.state.first.now (ap (λ z. z.first) k.state) ok.first narrow b 0 i (record { lane = l; col = one; row = r });
-          second = λ i r. cell_same V (vector_of p.shape).of x.state.second.now (ap (λ z. z.second) k.state) ok.second narrow b 0 i (record { lane = l; col = one; row = r });
+          table = λ j i c r. cell_same D p.shape (cells p.shape) x.state.table.now refl k.table ok.table few b j i (record { lane = l; col = c; row = r });
+          first = λ i r. cell_same U (vector_of p.shape).of (p.shape.rows * p.shape.lanes) x.state.first.now flat k.first ok.first narrow b 0 i (record { lane = l; col = one; row = r });
+          second = λ i r. cell_same V (vector_of p.shape).of (p.shape.rows * p.shape.lanes) x.state.second.now flat k.second ok.second narrow b 0 i (record { lane = l; col = one; row = r });
         }
 
     weights_same : Holds p.shape (lengths (shown x.weights)) → (b : ℕ) → b < p.shape.lanes
         → Alike p.shape.rows p.shape.cols (lane_of value o p.shape b (shown x.weights)) (weights_by p.shape b)
     weights_same ok b l =
         let one : 0 < 1 = omega arith in
+        let flat : p.shape.rows * p.shape.lanes ≡ cells (vector_of p.shape).of = omega arith in
         record {
-          table = λ j i c r. cell_same E p.shape x.weights.table.now (ap (λ z. z.table) k.weights) ok.table few b j i (record { lane = l; col = c; row = r });
-          first = λ i r. cell_same P (vector_of p.shape).of x.weights.first.now (ap (λ z. z.first) k.weights) ok.first narrow b 0 i (record { lane = l; col = one; row = r });
-          second = λ i r. cell_same Q (vector_of p.shape).of x.weights.second.now (ap (λ z. z.second) k.weights) ok.second narrow b 0 i (record { lane = l; col = one; row = r });
+          table = λ j i c r. cell_same E p.shape (cells p.shape) x.weights.table.now refl k.table_weights ok.table few b j i (record { lane = l; col = c; row = r });
+          first = λ i r. cell_same P (vector_of p.shape).of (p.shape.rows * p.shape.lanes) x.weights.first.now flat k.first_weights ok.first narrow b 0 i (record { lane = l; col = one; row = r });
+          second = λ i r. cell_same Q (vector_of p.shape).of (p.shape.rows * p.shape.lanes) x.weights.second.now flat k.second_weights ok.second narrow b 0 i (record { lane = l; col = one; row = r });
         }
 
     -- ---- lines

@@ -3,17 +3,42 @@ ghost use Rattle.std.specs.Prelude.{◌≡◌, ◌≤◌, List, length};
 ghost use Rattle.exact.specs.Tasks.{Workable};
 ghost use Rattle.reader.specs.Grammar.{Line};
 ghost use Rattle.reader.specs.Said.{ring_in};
-ghost use Rattle.reader.specs.Held.{Held};
+ghost use Rattle.reader.specs.Held.{Held, base};
 ghost use Rattle.text.specs.Lines.{Written};
 ghost use Rattle.text.specs.Answers.{script_lines};
-ghost use Rattle.text.specs.Solutions.{IsTaskOf};
+ghost use Rattle.text.specs.Solutions.{IsTaskOf, values_of};
 
 use crate::solution::put_solution;
 use exact::Task;
 use reader::Program;
 use state::{Parts, Script};
+use words::Memory;
 
-/// The program's script, and the front of each of its memories.
+/// Where the values of a memory begin.
+fn start_of(memory: Memory) -> usize
+    ensures { result ≡ base memory }
+{
+    match memory {
+        Memory::D => 0,
+        Memory::E => 1024,
+        Memory::U => 2048,
+        Memory::V => 3072,
+        Memory::P => 4096,
+        Memory::Q => 5120,
+    }
+}
+
+/// The first values of a memory.
+fn values(program: &Program, memory: Memory, count: usize) -> &[i64]
+    requires { count ≤ 1024 }
+    ensures values { result.now ≡ values_of program.now memory count }
+    ensures count { length result.now ≡ count }
+{
+    let from = start_of(memory);
+    &program.cells[from..from + count]
+}
+
+/// The program's script, and the values of its memories, as many as its shape has.
 fn task_of(program: &Program) -> Task<'_>
     ensures slices { IsTaskOf program.now result }
     ensures workable { Workable result program.now.taken program.now.shape.lanes program.now.shape.lanes }
@@ -29,14 +54,14 @@ fn task_of(program: &Program) -> Task<'_>
             indices: &program.indices[..program.listed],
         },
         state: Parts {
-            table: &program.cells[..cells],
-            first: &program.cells[2048..2048 + rows],
-            second: &program.cells[3072..3072 + rows],
+            table: values(program, Memory::D, cells),
+            first: values(program, Memory::U, rows),
+            second: values(program, Memory::V, rows),
         },
         weights: Parts {
-            table: &program.cells[1024..1024 + cells],
-            first: &program.cells[4096..4096 + rows],
-            second: &program.cells[5120..5120 + rows],
+            table: values(program, Memory::E, cells),
+            first: values(program, Memory::P, rows),
+            second: values(program, Memory::Q, rows),
         },
     }
 }

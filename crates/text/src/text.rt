@@ -14,6 +14,7 @@ fn pairings_agree(text: &[u8])
 {}
 
 /// The answer to a text, written into 65,536 bytes: how many bytes it has.
+#[tactic(auto, using(crate::proofs::Rooms::fault_room))]
 fn put_answer(text: &[u8], out: &mut [u8]) -> usize
     requires { length out.old ≡ 65536 }
     ensures { Answered text.now out.old out.new result }
