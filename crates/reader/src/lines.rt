@@ -8,6 +8,7 @@ ghost use Rattle.reader.specs.Grammar.{Line, ring_line, size_line, cell_line, li
 ghost use Rattle.reader.specs.Grammar.Line.{step};
 ghost use Rattle.reader.specs.Said.{memory_number, memory_shape};
 ghost use Rattle.reader.specs.Judged.{judged, fault_of, inside};
+ghost use Rattle.reader.specs.FirstFault.{FirstFault};
 ghost use Rattle.reader.specs.Held.{Held, Followed, Ahead, IsPlace, base};
 
 use crate::forms::{
@@ -249,6 +250,7 @@ fn behind_first(text: &[u8]) -> &[u8]
 pub fn read(text: &[u8], into: &mut Program) -> Result<(), Fault>
     ensures fault { fault_of result ≡ (judged text.now).fault }
     ensures held { Held (judged text.now).lawful into.new }
+    ensures first { length text.now ≤ 16384 → FirstFault text.now (judged text.now) }
 {
     *into = Program::new();
     if text.len() > 16384 {

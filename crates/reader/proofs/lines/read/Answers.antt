@@ -1,6 +1,7 @@
 use Rattle.std.proofs.Common.{◌≡◌, ℕ, ◌+◌, ◌<◌, List, length, drop, sym, ap, ◌∙◌, subst, arith, length-drop}
 use Rattle.reader.specs.Judged.{Judged}
 use Rattle.reader.specs.Held.{Held}
+use Rattle.reader.proofs.FirstFaults.{first_fault}
 use Rattle.reader.proofs.Reading.{ReadSoFar, next, wrong, behind, judged_is}
 use Rattle.reader.proofs.lines.read.Goals as goal
 
@@ -28,3 +29,12 @@ loop-rest-preserved c =
       subst (λ (t : List ℕ). ReadSoFar c.args.text.now t (c.loop-rest.count + 1) c.line.new.self) (sym e) n,
       omega (arith, ap length e, length-drop (c.bytes_before-k.result + 1) c.loop-rest.rest.now),
     )
+
+pub returns-in-Err-clause-first : goal.returns-in-Err-clause-first
+returns-in-Err-clause-first c le = first_fault c.args.text.now le
+
+pub returns-then-count-lt2-clause-first : goal.returns-then-count-lt2-clause-first
+returns-then-count-lt2-clause-first c le = first_fault c.args.text.now le
+
+pub returns-clause-first : goal.returns-clause-first
+returns-clause-first c le = first_fault c.args.text.now le
