@@ -261,7 +261,7 @@ pub fn read(text: &[u8], into: &mut Program) -> Result<(), Fault>
     }
     let mut rest = text;
     let mut count: usize = 0;
-    while rest.len() > 0 {
+    while !rest.is_empty() {
         let k = bytes_before(rest, b'\n');
         if let Err(refusal) = into.line(count, &rest[..k]) {
             return Err(Fault {
