@@ -14,7 +14,9 @@ ghost use Rattle.reader.specs.Held.{Held, Followed, Ahead, IsPlace, base};
 use crate::forms::{
     Cell, is_table, kind_of, plain_fields, read_cell, read_ring, read_size, takes, takes_list,
 };
-use crate::program::{Fault, Program, Ring};
+use crate::program::{
+    Fault, MAX_BYTES, MAX_CELLS, MAX_INDICES, MAX_NUMBERS, MAX_STEPS, Program, Ring,
+};
 use lex::{bytes_before, read_fields};
 use shape::check::{no_lanes, too_large};
 use shape::{Column, Refusal, TableShape};
@@ -106,7 +108,7 @@ impl Program {
         if before != 1 {
             return Err(Refusal::Malformed);
         }
-        if t.rows * t.cols * t.lanes > 1024 || t.rows * t.lanes > 1024 {
+        if t.rows * t.cols * t.lanes > MAX_CELLS || t.rows * t.lanes > MAX_CELLS {
             return Err(Refusal::TextLimit);
         }
         self.shape = t;
@@ -121,7 +123,7 @@ impl Program {
         if x.lane >= t.lanes || x.col >= t.cols || x.row >= t.rows {
             return None;
         }
-        Some(memory_number(memory) * 1024 + ((x.lane * t.cols + x.col) * t.rows + x.row))
+        Some(memory_number(memory) * MAX_CELLS + ((x.lane * t.cols + x.col) * t.rows + x.row))
     }
 
     /// A line of a cell: outside the shape it is a fault of its own, also behind a step.
@@ -157,7 +159,10 @@ impl Program {
         if before < 2 {
             return Err(Refusal::Malformed);
         }
-        if self.taken >= 64 || number_count > 1024 - self.used || list_count > 1024 - self.listed {
+        if self.taken >= MAX_STEPS
+            || number_count > MAX_NUMBERS - self.used
+            || list_count > MAX_INDICES - self.listed
+        {
             return Err(Refusal::TextLimit);
         }
         self.steps[self.taken] = StepRecord {
@@ -253,7 +258,7 @@ pub fn read(text: &[u8], into: &mut Program) -> Result<(), Fault>
     ensures first { length text.now ≤ 16384 → FirstFault text.now (judged text.now) }
 {
     *into = Program::new();
-    if text.len() > 16384 {
+    if text.len() > MAX_BYTES {
         return Err(Fault {
             line: 0,
             refusal: Refusal::TextLimit,

@@ -10,7 +10,7 @@ returns-in-Err-clause-fault c =
     let s = c.loop-rest.invariant.0 in
     let some : 0 < length c.loop-rest.rest.now = search rules in
     let w = wrong c.args.text.now c.loop-rest.rest.now c.loop-rest.count c.bytes_before-k.result c.in-Err.refusal c.loop-rest.into c.line.new.self s some c.bytes_before-k.ensures.is (c.in-Err.ensures s.ls s.held s.counted) in
-    sym (ap (λ (j : Judged). j.fault) (judged_is c.args.text.now c.if-text-gt16384.false ∙ w))
+    sym (ap (λ (j : Judged). j.fault) (judged_is c.args.text.now c.if-text-gt-MAX_BYTES.false ∙ w))
 
 pub returns-in-Err-clause-held : goal.returns-in-Err-clause-held
 returns-in-Err-clause-held c =
@@ -18,7 +18,7 @@ returns-in-Err-clause-held c =
     let some : 0 < length c.loop-rest.rest.now = search rules in
     let f = c.in-Err.ensures s.ls s.held s.counted in
     let w = wrong c.args.text.now c.loop-rest.rest.now c.loop-rest.count c.bytes_before-k.result c.in-Err.refusal c.loop-rest.into c.line.new.self s some c.bytes_before-k.ensures.is f in
-    subst (λ (j : Judged). Held j.lawful c.line.new.self) (sym (judged_is c.args.text.now c.if-text-gt16384.false ∙ w)) f.held
+    subst (λ (j : Judged). Held j.lawful c.line.new.self) (sym (judged_is c.args.text.now c.if-text-gt-MAX_BYTES.false ∙ w)) f.held
 
 pub loop-rest-preserved : goal.loop-rest-preserved
 loop-rest-preserved c =
