@@ -67,9 +67,7 @@ pub fn read_fields<'a, F: Field>(
             break;
         };
         let k = bytes_before(tail, b'\t');
-        let Some(x) = F::parse(&tail[..k]) else {
-            return None;
-        };
+        let x = F::parse(&tail[..k])?;
         if n < room {
             to[at + n] = x;
         }

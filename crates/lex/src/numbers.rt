@@ -10,7 +10,7 @@ fn number(text: &[u8]) -> Option<u64>
     let mut n: u64 = 0;
     let mut rest = text;
     while let [first, tail @ ..] = rest {
-        if *first < b'0' || *first > b'9' {
+        if !first.is_ascii_digit() {
             return None;
         }
         n = n * 10 + (*first - b'0') as u64;
@@ -23,13 +23,11 @@ fn number(text: &[u8]) -> Option<u64>
 pub fn plain(text: &[u8]) -> Option<usize>
     ensures { result ≡ plain_of text.now }
 {
-    if text.len() == 0 || text.len() > 9 {
+    if text.is_empty() || text.len() > 9 {
         return None;
     }
-    match number(text) {
-        Some(n) => Some(n as usize),
-        None => None,
-    }
+    let n = number(text)?;
+    Some(n as usize)
 }
 
 /// A magnitude: 1 to 10 digits, at most 2,147,483,646.
@@ -37,18 +35,14 @@ fn magnitude(text: &[u8]) -> Option<u64>
     ensures is { result ≡ magnitude_of text.now }
     ensures small { IfSome result (λ n. n ≤ 2147483646) }
 {
-    if text.len() == 0 || text.len() > 10 {
+    if text.is_empty() || text.len() > 10 {
         return None;
     }
-    match number(text) {
-        None => None,
-        Some(n) => {
-            if n > 2147483646 {
-                return None;
-            }
-            Some(n)
-        }
+    let n = number(text)?;
+    if n > 2147483646 {
+        return None;
     }
+    Some(n)
 }
 
 /// A value: a magnitude, perhaps after a minus.
@@ -56,13 +50,7 @@ pub fn value(text: &[u8]) -> Option<i64>
     ensures { result ≡ value_of text.now }
 {
     match text {
-        [b'-', rest @ ..] => match magnitude(rest) {
-            Some(n) => Some(0 - n as i64),
-            None => None,
-        },
-        _ => match magnitude(text) {
-            Some(n) => Some(n as i64),
-            None => None,
-        },
+        [b'-', rest @ ..] => magnitude(rest).map(|n| -(n as i64)),
+        _ => magnitude(text).map(|n| n as i64),
     }
 }

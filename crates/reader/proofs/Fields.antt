@@ -6,7 +6,7 @@ use Rattle.std.specs.Option.{option_map}
 use Rattle.std.specs.Str.{bytes_eq}
 use Rattle.std.proofs.lemmas.Slice.Eq.{bytes_eq-Decides}
 use Rattle.std.proofs.lemmas.List.{take_all, drop_all}
-use Rattle.std.proofs.lemmas.Bool.{cases_Bool, cond-true, cond-false, and_from, and_left, and_right, eq-eqb, ne_eqb}
+use Rattle.std.proofs.lemmas.Bool.{cases_Bool, cond-true, cond-false, and_from, and_right, eq-eqb, ne_eqb}
 use Rattle.lex.specs.Lines.{fields, more, before}
 use Rattle.lex.proofs.Parts.{fields_cut, after_tab, more_after}
 use Rattle.words.specs.declared.Memory.{Memory}
@@ -142,19 +142,9 @@ listed_kind Scatter = refl
 
 -- ---- a step with plain numbers and values
 
-pub plains_none : (w : StepWord) (o : Option (List ℕ)) (q : Option (List ℤ)) → o ≡ None → value_line w o q ≡ None
-plains_none w o q e = ap (λ (x : Option (List ℕ)). value_line w x q) e
-
-few_at : (w : StepWord) (ps : List ℕ) (q : Option (List ℤ)) → (length ps ≡ plain_fields w → ⊥) → value_line w (Some ps) q ≡ None
-few_at w ps None ne = refl
-few_at w ps (Some vs) ne = cond-false _ _ _ (and_left _ _ (ne_eqb _ _ ne))
-
 module _ (w : StepWord) (o : Option (List ℕ)) (q : Option (List ℤ)) (ps : List ℕ) (a : o ≡ Some ps) where
   with_plains : value_line w o q ≡ value_line w (Some ps) q
   with_plains = ap (λ (x : Option (List ℕ)). value_line w x q) a
-
-  pub plains_few : (length ps ≡ plain_fields w → ⊥) → value_line w o q ≡ None
-  plains_few ne = with_plains ∙ few_at w ps q ne
 
   pub values_none : q ≡ None → value_line w o q ≡ None
   values_none b = with_plains ∙ ap (value_line w (Some ps)) b

@@ -38,12 +38,6 @@ value_more (a ∷ b ∷ ls) x m k h e =
     ap (λ (t : TableShape). fold (value_after t m k) (pos 0) (ls ++ x ∷ [])) (shape_more (a ∷ b ∷ ls) x ∙ e)
     ∙ fold-append (value_after (shape_in (a ∷ b ∷ ls)) m k) (pos 0) ls (x ∷ [])
 
--- the ring and the size tell no value
-pub value_head : (ls : List Line) (x : Line) (m : Memory) (k : ℕ) → length ls < 2 → value_in (ls ++ x ∷ []) m k ≡ value_in ls m k
-value_head [] x m k h = refl
-value_head (a ∷ []) x m k h = refl
-value_head (a ∷ b ∷ ls) x m k h = absurd (omega arith)
-
 pub records_more : (n i : ℕ) (ls : List Line) (x : Step ℤ) → records_from n i (steps_in ls ++ x ∷ []) ≡ records_from n i (steps_in ls) ++ record_at (n + length (numbers_in ls)) (i + length (indices_in ls)) x ∷ []
 records_more n i [] x = (let a : n + 0 ≡ n = add-zero n in let b : i + 0 ≡ i = add-zero i in ap (λ (j : ℕ). record_at j i x ∷ []) (sym a) ∙ ap (λ (j : ℕ). record_at (n + 0) j x ∷ []) (sym b))
 records_more n i (ring y ∷ ls) x = records_more n i ls x

@@ -12,7 +12,7 @@ use Rattle.shape.specs.declared.refusal.Refusal.{Refusal}
 use Rattle.shape.proofs.Answered.{number_some}
 use Rattle.reader.specs.declared.program.Program.{Program}
 use Rattle.reader.specs.Grammar.{Line, worded, line_of}
-use Rattle.reader.specs.Judged.{fault_after, with, ended, judged_from, judged}
+use Rattle.reader.specs.Judged.{fault_after, with, judged_from, judged}
 use Rattle.reader.specs.Held.{Held, Followed}
 
 -- a line is that of its word and of what follows the word
@@ -72,7 +72,3 @@ wrong text rest count k r p q s h e f =
 module _ (text : List ℕ) (le : length text ≤ 16384) where
   pub judged_is : judged text ≡ judged_from [] (lines text)
   judged_is = cond-false _ _ _ (le-ltb _ _ le)
-
-  pub at_end : (rest : List ℕ) (count : ℕ) (p : Program) → (s : ReadSoFar text rest count p) → length rest ≤ 0 → judged text ≡ ended s.ls
-  at_end [] count p s h = judged_is ∙ s.judging
-  at_end (b ∷ bs) count p s h = absurd (omega arith)

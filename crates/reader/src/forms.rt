@@ -54,9 +54,7 @@ pub fn read_size(rest: &[u8]) -> Option<TableShape>
     ensures { option_map (λ t. size t.rows t.cols t.lanes) result ≡ size_line (all plain_of (more rest.now)) }
 {
     let mut sizes = [0usize; 3];
-    let Some((count, _)) = read_fields(rest, rest.len(), &mut sizes, 0) else {
-        return None;
-    };
+    let (count, _) = read_fields(rest, rest.len(), &mut sizes, 0)?;
     if count != 3 {
         return None;
     }
@@ -110,15 +108,11 @@ pub fn read_cell(memory: Memory, rest: &[u8]) -> Option<Cell>
     let mut place = [0usize; 3];
     let mut value = [0i64; 1];
     let want = place_fields(memory);
-    let Some((front, tail)) = read_fields(rest, want, &mut place, 0) else {
-        return None;
-    };
+    let (front, tail) = read_fields(rest, want, &mut place, 0)?;
     if front != want {
         return None;
     }
-    let Some((count, _)) = read_fields(tail, tail.len(), &mut value, 0) else {
-        return None;
-    };
+    let (count, _) = read_fields(tail, tail.len(), &mut value, 0)?;
     if count != 1 {
         return None;
     }

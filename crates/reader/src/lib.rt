@@ -1,8 +1,8 @@
 //! A text of the text program read into memory: its ring, its shape, its cells and its script.
 #![tactic(auto)]
 
-pub mod forms;
-pub mod lines;
+mod forms;
+mod lines;
 pub mod program;
 
 pub use lines::read;

@@ -8,12 +8,15 @@ ghost use Rattle.reader.specs.Grammar.{Line, ring_line, size_line, cell_line, li
 ghost use Rattle.reader.specs.Grammar.Line.{step};
 ghost use Rattle.reader.specs.Said.{memory_number, memory_shape};
 ghost use Rattle.reader.specs.Judged.{judged, fault_of, inside};
+ghost use Rattle.reader.specs.FirstFault.{FirstFault};
 ghost use Rattle.reader.specs.Held.{Held, Followed, Ahead, IsPlace, base};
 
 use crate::forms::{
     Cell, is_table, kind_of, plain_fields, read_cell, read_ring, read_size, takes, takes_list,
 };
-use crate::program::{Fault, Program, Ring};
+use crate::program::{
+    Fault, MAX_BYTES, MAX_CELLS, MAX_INDICES, MAX_NUMBERS, MAX_STEPS, Program, Ring,
+};
 use lex::{bytes_before, read_fields};
 use shape::check::{no_lanes, too_large};
 use shape::{Column, Refusal, TableShape};
@@ -105,7 +108,7 @@ impl Program {
         if before != 1 {
             return Err(Refusal::Malformed);
         }
-        if t.rows * t.cols * t.lanes > 1024 || t.rows * t.lanes > 1024 {
+        if t.rows * t.cols * t.lanes > MAX_CELLS || t.rows * t.lanes > MAX_CELLS {
             return Err(Refusal::TextLimit);
         }
         self.shape = t;
@@ -120,7 +123,7 @@ impl Program {
         if x.lane >= t.lanes || x.col >= t.cols || x.row >= t.rows {
             return None;
         }
-        Some(memory_number(memory) * 1024 + ((x.lane * t.cols + x.col) * t.rows + x.row))
+        Some(memory_number(memory) * MAX_CELLS + ((x.lane * t.cols + x.col) * t.rows + x.row))
     }
 
     /// A line of a cell: outside the shape it is a fault of its own, also behind a step.
@@ -156,7 +159,10 @@ impl Program {
         if before < 2 {
             return Err(Refusal::Malformed);
         }
-        if self.taken >= 64 || number_count > 1024 - self.used || list_count > 1024 - self.listed {
+        if self.taken >= MAX_STEPS
+            || number_count > MAX_NUMBERS - self.used
+            || list_count > MAX_INDICES - self.listed
+        {
             return Err(Refusal::TextLimit);
         }
         self.steps[self.taken] = StepRecord {
@@ -249,9 +255,10 @@ fn behind_first(text: &[u8]) -> &[u8]
 pub fn read(text: &[u8], into: &mut Program) -> Result<(), Fault>
     ensures fault { fault_of result ≡ (judged text.now).fault }
     ensures held { Held (judged text.now).lawful into.new }
+    ensures first { length text.now ≤ 16384 → FirstFault text.now (judged text.now) }
 {
     *into = Program::new();
-    if text.len() > 16384 {
+    if text.len() > MAX_BYTES {
         return Err(Fault {
             line: 0,
             refusal: Refusal::TextLimit,
@@ -259,7 +266,7 @@ pub fn read(text: &[u8], into: &mut Program) -> Result<(), Fault>
     }
     let mut rest = text;
     let mut count: usize = 0;
-    while rest.len() > 0 {
+    while !rest.is_empty() {
         let k = bytes_before(rest, b'\n');
         if let Err(refusal) = into.line(count, &rest[..k]) {
             return Err(Fault {

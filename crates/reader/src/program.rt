@@ -5,6 +5,17 @@ ghost use Rattle.shape.specs.Shapes.{Fits, cells as cell_count};
 use shape::{Refusal, TableShape};
 use state::StepRecord;
 
+/// The most bytes of a text.
+pub const MAX_BYTES: usize = 16384;
+/// The most cells of a table or a vector.
+pub const MAX_CELLS: usize = 1024;
+/// The most steps of a script.
+pub const MAX_STEPS: usize = 64;
+/// The most numbers of all its steps together.
+pub const MAX_NUMBERS: usize = 1024;
+/// The most indices of all its lists together.
+pub const MAX_INDICES: usize = 1024;
+
 /// The scalars of a text: numbers modulo 2^64, or modulo 2,147,483,647.
 #[derive(Clone, Copy, Debug, PartialEq, Eq)]
 pub enum Ring {

@@ -1,5 +1,5 @@
 -- The words of a text: how each is spelt, which word some bytes spell, and the number of a step's word. Assumes nothing.
-use Rattle.std.specs.Prelude.{◌≡◌, ℕ, ◌<◌, cond, List, [], ◌∷◌, Some, None, Ok, Err, codes, Option, Result, ◌≢◌, slice_index_or}
+use Rattle.std.specs.Prelude.{◌≡◌, ℕ, ◌<◌, cond, List, [], map, ◌∷◌, Some, None, Ok, Err, codes, Option, Result, ◌≢◌, slice_index_or}
 use Rattle.std.specs.Str.{bytes_eq}
 use Rattle.shape.specs.Refusals.{number_of}
 use Rattle.shape.specs.declared.refusal.Refusal.{Refusal}
@@ -70,7 +70,7 @@ step_number Scatter = 9
 
 -- their words, each at its number
 abbrev pub step_words : List (List ℕ)
-step_words = codes "update" ∷ codes "cols" ∷ codes "sumcol" ∷ codes "addcol" ∷ codes "setcol" ∷ codes "axpy" ∷ codes "copy" ∷ codes "scale" ∷ codes "gather" ∷ codes "scatter" ∷ []
+step_words = map step_spelling (Update ∷ Cols ∷ SumCol ∷ AddCol ∷ SetCol ∷ Axpy ∷ Copy ∷ Scale ∷ Gather ∷ Scatter ∷ [])
 
 -- the number of the step's word that the bytes spell; 13 where they spell none
 abbrev pub IsKindNumber : List ℕ → Result ℕ Refusal → Type 0

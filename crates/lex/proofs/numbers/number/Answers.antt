@@ -9,7 +9,9 @@ loop-rest-init c = (refl, c.requires, pow_some _)
 pub loop-rest-preserved : goal.loop-rest-preserved
 loop-rest-preserved c =
     let h : 0 < length c.loop-rest.rest.now = search rules in
-    let e = digits_more c.loop-rest.n c.loop-rest.rest.now h c.if-first-lt48.false c.if-first-gt57.false in
+    let lo : 48 ≤ get_or c.loop-rest.rest.now 0 0 = search rules in
+    let hi : get_or c.loop-rest.rest.now 0 0 ≤ 57 = search rules in
+    let e = digits_more c.loop-rest.n c.loop-rest.rest.now h lo hi in
     let d : get_or c.loop-rest.rest.now 0 0 - 48 < 10 = omega arith in
     let p = pow_more c.loop-rest.n (get_or c.loop-rest.rest.now 0 0 - 48) (length c.loop-rest.rest.now) h c.loop-rest.invariant.1 c.loop-rest.invariant.2 d in
     let n : length c.loop-rest.rest.now ≤ length c.loop-rest.rest.now = omega arith in
