@@ -1,0 +1,5 @@
+pub mod Fields
+pub mod Growth
+pub mod Holding
+pub mod Reading
+pub mod FirstFaults
