@@ -6,3 +6,4 @@ pub mod Acceptance
 pub mod Runs
 pub mod UpdateLaws
 pub mod TransposeLaws
+pub mod Staging

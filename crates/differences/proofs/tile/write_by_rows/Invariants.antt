@@ -1,7 +1,7 @@
 use Rattle.std.proofs.Common.{◌≡◌, length}
 use Rattle.shape.proofs.Parts.{Filled}
 use Rattle.differences.specs.Tiles.{staged_product}
-use Rattle.differences.proofs.tile.write_run.Given as goal
+use Rattle.differences.proofs.tile.write_by_rows.Given as goal
 
 abbrev pub invariant-loop-i : goal.invariant-loop-i
 invariant-loop-i g l =
