@@ -34,6 +34,7 @@ fn ring_of(name: &str) -> Option<Ring>
 }
 
 /// The ring that the one field names.
+#[tactic(auto, using(crate::proofs::Fields::ring_named, crate::proofs::Fields::ring_no_text, crate::proofs::Fields::ring_two))]
 pub fn read_ring(rest: &[u8]) -> Option<Ring>
     ensures { option_map ring result ≡ ring_line (more rest.now) }
 {

@@ -37,9 +37,9 @@ spelt (Step Scale) = refl
 spelt (Step Gather) = refl
 spelt (Step Scatter) = refl
 
-pub by-table : (w : List ℕ) (r : Option Word) → IsWord w r → r ≡ word_for w
-by-table w None h = none words w h
-by-table w (Some x) h = spelt x ∙ ap word_for (sym h)
+pub by_word : (w : List ℕ) (r : Option Word) → IsWord w r → r ≡ word_for w
+by_word w None h = none words w h
+by_word w (Some x) h = spelt x ∙ ap word_for (sym h)
 
 text : (x : Word) → IsUtf8 (spelling x)
 unfolding lib.Utf8.encode
@@ -64,4 +64,4 @@ text (Step Scatter) = (spelling (Step Scatter), (refl, refl))
 
 -- bytes that are no text spell no word
 pub no_text : (w : List ℕ) → (IsUtf8 w → ⊥) → None ≡ word_for w
-no_text w h = by-table w None (λ x e. h (subst IsUtf8 (sym e) (text x)))
+no_text w h = by_word w None (λ x e. h (subst IsUtf8 (sym e) (text x)))

@@ -79,6 +79,7 @@ pub fn word_of(text: &str) -> Option<Word>
 }
 
 /// The word that the bytes spell, if any. Bytes that are not UTF-8 spell none.
+#[tactic(auto, using(crate::proofs::Spellings::by_word, crate::proofs::Spellings::no_text))]
 pub fn read_word(bytes: &[u8]) -> Option<Word>
     ensures { result ≡ word_for bytes.now }
 {
