@@ -4,7 +4,7 @@ ghost use Rattle.scalar.specs.Modular.{wraps, residues};
 ghost use Rattle.shape.specs.Refusals.{answer, first_of};
 ghost use Rattle.state.specs.Memory.{held, lengths};
 ghost use Rattle.exact.specs.Values.{wrap_value, residue_value};
-ghost use Rattle.exact.specs.Tasks.{Solved, task_tests};
+ghost use Rattle.exact.specs.Tasks.{Solved, Workable, task_tests};
 
 use crate::run::{check_task, run_in_ring};
 use crate::task::Task;
@@ -31,10 +31,9 @@ fn lend<'a, S>(
     }
 }
 
-/// A task in the ring of `$scalar`.
+/// A task that passed its tests, in the ring of `$scalar`.
 macro_rules! solve {
     ($scalar:ident, $task:ident, $answers:ident, $after:ident, $before:ident) => {{
-        check_task($task, $answers.len(), $after.len(), $before.len())?;
         let (mut d, mut u, mut v) = ([$scalar(0); 1024], [$scalar(0); 1024], [$scalar(0); 1024]);
         let (mut e, mut p, mut q) = ([$scalar(0); 1024], [$scalar(0); 1024], [$scalar(0); 1024]);
         let (mut x, mut y, mut z) = ([$scalar(0); 1024], [$scalar(0); 1024], [$scalar(0); 1024]);
@@ -57,9 +56,34 @@ macro_rules! solve {
             $answers,
             $after,
             $before,
-        );
-        Ok(())
+        )
     }};
+}
+
+/// A task that passed its tests, among the numbers modulo 2^64.
+fn run_in_wrap(
+    task: Task,
+    answers: &mut [Result<(), Refusal>],
+    after: &mut [u64],
+    before: &mut [u64],
+)
+    requires { Workable task (length answers.old) (length after.old) (length before.old) }
+    ensures { Solved wraps wrap_value (λ m. m.number) task.entry (map answer answers.new) after.new before.new }
+{
+    solve!(Wrap, task, answers, after, before)
+}
+
+/// A task that passed its tests, among the numbers modulo 2,147,483,647.
+fn run_in_residue(
+    task: Task,
+    answers: &mut [Result<(), Refusal>],
+    after: &mut [u64],
+    before: &mut [u64],
+)
+    requires { Workable task (length answers.old) (length after.old) (length before.old) }
+    ensures { Solved residues residue_value (λ m. m.number) task.entry (map answer answers.new) after.new before.new }
+{
+    solve!(Residue, task, answers, after, before)
 }
 
 /// A task among the numbers modulo 2^64: entry i of `answers` becomes the answer of step i, and entry b
@@ -79,7 +103,9 @@ pub fn solve_in_wrap(
     ensures accepted { OnOk result (Solved wraps wrap_value (λ m. m.number) task.entry (map answer answers.new) after.new before.new) }
     ensures refused { OnErr result ((answers.new ≡ answers.old) × (after.new ≡ after.old) × (before.new ≡ before.old)) }
 {
-    solve!(Wrap, task, answers, after, before)
+    check_task(task, answers.len(), after.len(), before.len())?;
+    run_in_wrap(task, answers, after, before);
+    Ok(())
 }
 
 /// A task among the numbers modulo 2,147,483,647, else as `solve_in_wrap`.
@@ -93,5 +119,7 @@ pub fn solve_in_residue(
     ensures accepted { OnOk result (Solved residues residue_value (λ m. m.number) task.entry (map answer answers.new) after.new before.new) }
     ensures refused { OnErr result ((answers.new ≡ answers.old) × (after.new ≡ after.old) × (before.new ≡ before.old)) }
 {
-    solve!(Residue, task, answers, after, before)
+    check_task(task, answers.len(), after.len(), before.len())?;
+    run_in_residue(task, answers, after, before);
+    Ok(())
 }
