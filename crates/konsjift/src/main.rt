@@ -4,10 +4,10 @@
 
 ghost use Rattle.std.specs.Prelude.{◌≤◌, length, IfOk};
 
+use std::env;
 use std::fs::File;
 use std::io::{self, Read};
 use std::process::ExitCode;
-use std::env;
 use text::run_text;
 
 /// One byte more than a text may have: what is longer has the same answer as its front.
