@@ -116,14 +116,14 @@ fn write_by_columns<S: Scalar>(staged: &[S], m: Matrix, numbers: &[S], j: usize,
 }
 
 /// New column j of a staged tile. Columns gain side by side: a third of the time from 100 rows on,
-/// and more than twice of it for one row.
+/// and more than twice of it for one row; for four rows of f32 half as much again, for seven no more.
 fn write_run<S: Scalar>(staged: &[S], m: Matrix, numbers: &[S], j: usize, y: &mut [S])
     requires small { Small m (length numbers.now) }
     requires j { j < m.size }
     requires room { m.size * length y.old ≤ length staged.now }
     ensures { (i : ℕ) (d : S) → i < length y.old → S.means (slice_index_or y.new i d) ≡ staged_product S.means S.ops staged.now (length y.old) m numbers.now j i }
 {
-    if y.len() < 4 {
+    if y.len() < 7 {
         write_by_rows(staged, m, numbers, j, y);
     } else {
         write_by_columns(staged, m, numbers, j, y);

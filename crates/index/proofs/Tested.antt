@@ -1,5 +1,7 @@
 -- What an accepted index call knows of its operands and its list. Assumes nothing.
-use Rattle.std.proofs.Common.{◌≡◌, ℕ, zero, suc, false, leb, List, [], ◌∷◌, length, refl, arith}
+use Rattle.std.proofs.Common.{◌≡◌, ℕ, zero, suc, false, ◌||◌, leb, List, [], ◌∷◌, length, take, drop, refl, sym, ap, ◌∙◌, arith}
+use Rattle.std.proofs.lemmas.List.{take-append-drop}
+use Rattle.std.proofs.lemmas.List.Folds.{list_any-append}
 use Rattle.std.proofs.lemmas.Bool.{or_parts, leb-false, eqb-true, not-false}
 use Rattle.shape.specs.Refusals.{first_of}
 use Rattle.shape.specs.declared.operand.Column.{Column}
@@ -9,6 +11,10 @@ use Rattle.index.specs.Routes.{wrong_length, beyond, Ready}
 use Rattle.index.specs.declared.route.Route.{Route}
 use Rattle.index.specs.declared.route.Route.TheVariants.{Gather, Scatter, Copy}
 use Rattle.index.specs.Indices.{outside, Inside}
+
+-- an index is outside in a part of the list or behind it
+pub parted : (n i : ℕ) (list : List ℕ) → outside n list ≡ (outside n (take i list) || outside n (drop i list))
+parted n i list = sym (ap (outside n) (take-append-drop i list)) ∙ list_any-append (leb n) (take i list) (drop i list)
 
 pub inside_of : (n : ℕ) (list : List ℕ) → outside n list ≡ false → Inside n list
 inside_of n [] e i h = absurd (omega arith)

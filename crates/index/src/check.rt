@@ -8,16 +8,41 @@ use crate::route::Route;
 use shape::lanes::no_broadcast;
 use shape::{Column, Refusal, refuse_columns};
 
-/// Some index of the list is not below `rows`.
-pub fn has_outside(list: &[usize], rows: usize) -> bool
-    ensures { result ≡ outside rows list.now }
+/// Some index of a part of a list is not below `rows`. To the end, whatever is found: with no exit
+/// within, two indices are tested at once.
+fn part_has_outside(part: &[usize], rows: usize) -> bool
+    ensures { result ≡ outside rows part.now }
 {
-    // To the end, whatever is found: with no exit within, two indices are tested at once.
     let mut found = false;
-    for k in list {
+    for k in part {
         found |= *k >= rows;
     }
     found
+}
+
+/// The same of what is left behind the parts, one index after the other.
+fn rest_has_outside(rest: &[usize], rows: usize) -> bool
+    ensures { result ≡ outside rows rest.now }
+{
+    rest.iter().any(|k| *k >= rows)
+}
+
+/// Some index of the list is not below `rows`. What lies behind the part that has one is not read,
+/// so a long list is refused as soon as a short one.
+// Inlined, since a short list takes no longer than a call.
+#[inline(always)]
+#[tactic(auto, using(crate::proofs::Tested::parted))]
+pub fn has_outside(list: &[usize], rows: usize) -> bool
+    ensures { result ≡ outside rows list.now }
+{
+    let mut left = list;
+    while let Some((part, later)) = left.split_first_chunk::<16>() {
+        if part_has_outside(part, rows) {
+            return true;
+        }
+        left = later;
+    }
+    rest_has_outside(left, rows)
 }
 
 /// The tests of the calls that go through a list from column x to column y, and what acceptance

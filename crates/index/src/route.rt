@@ -28,6 +28,8 @@ impl Route {
     }
 
     /// Some index of the list names no row where the route reads it or writes it.
+    // Inlined, so that a call tests for its own route alone.
+    #[inline(always)]
     pub(crate) fn goes_beyond(self, list: &[usize], source: usize, target: usize) -> bool
         ensures { result ≡ beyond self list.now source target }
     {

@@ -11,6 +11,8 @@ use scalar::Scalar;
 use shape::{Column, Refusal};
 
 /// One call through the list: it is tested whole before the first write.
+// Inlined, so that each call is compiled for its own route.
+#[inline(always)]
 fn go_through<S: Copy>(
     route: Route,
     x: Column,

@@ -9,6 +9,8 @@ use shape::lanes::{lane_for, no_broadcast};
 use shape::{Column, Refusal, refuse_columns};
 
 /// The tests, and what acceptance tells.
+// Inlined for both formats: of two rows a norm takes 0.8 of the time.
+#[inline(always)]
 fn check_norm(
     x: Column,
     x_len: usize,

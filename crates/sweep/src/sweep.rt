@@ -22,15 +22,15 @@ use state::{Parts, Script};
 /// A sweep forward: its shape, and how many steps of the script were taken.
 #[derive(Drop)]
 pub struct Sweep {
-    pub(crate) shape: TableShape,
-    pub(crate) taken: usize,
+    pub shape: TableShape,
+    pub taken: usize,
 }
 
 /// A sweep that has turned: how many of the steps taken are not yet carried back.
 #[derive(Drop)]
 pub struct Turned {
-    pub(crate) shape: TableShape,
-    pub(crate) left: usize,
+    pub shape: TableShape,
+    pub left: usize,
 }
 
 /// The tests before the next step is taken, and what acceptance tells.

@@ -6,7 +6,7 @@ use shape::{Refusal, TableShape};
 use state::{Parts, Script, StepRecord};
 use std::test::Fail;
 use steps::Kind;
-use sweep::{Sweep, run_script};
+use sweep::{Sweep, Turned, run_script};
 
 const SHAPE: TableShape = TableShape {
     rows: 1,
@@ -187,5 +187,55 @@ fn the_first_steps_by_hand(rt: HostRuntime) -> Result<(), Fail> {
     assert_eq!(rt; p[0].0, 123);
     assert_eq!(rt; q[0].0, 6);
     assert_eq!(rt; e[0].0, 1);
+    Ok(())
+}
+
+#[test]
+fn a_sweep_goes_on_from_a_count(rt: HostRuntime) -> Result<(), Fail> {
+    let steps = [
+        step(Kind::Update { order: 0 }, 0, 0),
+        step(Kind::Scale, 1, 0),
+        step(Kind::Copy, 0, 0),
+    ];
+    let numbers = [Wrap(3)];
+    let script = Script {
+        steps: &steps,
+        numbers: &numbers,
+        indices: &[],
+    };
+    let mut d = [Wrap(9), Wrap(7), Wrap(4)];
+    let mut u = [Wrap(7)];
+    let mut v = [Wrap(0)];
+    let mut e = [Wrap(1), Wrap(10), Wrap(100)];
+    let mut p = [Wrap(4)];
+    let mut q = [Wrap(6)];
+    let mut sums = [Wrap(0)];
+    let mut work = [Wrap(0); 8];
+    let mut state = Parts::lend(&mut d, &mut u, &mut v);
+    let mut weights = Parts::lend(&mut e, &mut p, &mut q);
+    // The update was taken elsewhere: the scaling is the next step.
+    let mut sweep = Sweep {
+        shape: SHAPE,
+        taken: 1,
+    };
+    assert!(rt; sweep.step(script, &mut state, &mut work).is_ok());
+    assert_eq!(rt; sweep.taken, 2);
+    assert_eq!(rt; sweep.shape.cols, 3);
+    // Other weights go back through the first two steps, with no run forward.
+    let mut turned = Turned {
+        shape: SHAPE,
+        left: 2,
+    };
+    assert!(rt;
+        turned
+            .back(script, &mut weights, &mut sums, &mut work)
+            .is_ok()
+    );
+    assert_eq!(rt; turned.left, 1);
+    assert_eq!(rt; d[0].0, 9);
+    assert_eq!(rt; u[0].0, 21);
+    assert_eq!(rt; v[0].0, 0);
+    assert_eq!(rt; p[0].0, 12);
+    assert_eq!(rt; e[2].0, 100);
     Ok(())
 }
