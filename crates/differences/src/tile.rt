@@ -116,7 +116,8 @@ fn write_by_columns<S: Scalar>(staged: &[S], m: Matrix, numbers: &[S], j: usize,
 }
 
 /// New column j of a staged tile. Columns gain side by side: a third of the time from 100 rows on,
-/// and more than twice of it for one row; for four rows of f32 half as much again, for seven no more.
+/// and more than twice of it for one row; for four rows of f32 half as much again, for seven less
+/// than a tenth more.
 fn write_run<S: Scalar>(staged: &[S], m: Matrix, numbers: &[S], j: usize, y: &mut [S])
     requires small { Small m (length numbers.now) }
     requires j { j < m.size }

@@ -23,6 +23,10 @@ module _ (x : Band) (xl : ℕ) (y : Band) (yl : ℕ) (law : BandsLawful x xl y y
   pub reads_from : a ≡ start x.of (lane_for lane x.of.lanes y.of.lanes) x.first
   reads_from = starts xl law.source (omega (arith, law.source_within)) read_below ∙ ap (λ b. start x.of b x.first) read_is
 
+-- a lane's run is as long in the source as in the destination
+pub run_size : (x : Band) (xl : ℕ) (y : Band) (yl : ℕ) → BandsLawful x xl y yl → x.count * x.of.rows ≡ y.count * y.of.rows
+run_size x xl y yl law = ap (λ z. z * x.of.rows) law.count ∙ ap (λ z. y.count * z) law.rows
+
 -- row i of the column at the distance j - c in a run that starts at column f
 pub place_in : (t : TableShape) (b f c j i r a : ℕ) → a ≡ start t b f → t.rows ≡ r → a + ((j - c) * r + i) ≡ cell t b (f + (j - c)) i
 place_in t b f c j i r a e rows = ap (λ z. z + ((j - c) * r + i)) e ∙ ap (λ z. start t b f + ((j - c) * z + i)) (sym rows) ∙ cell_from t b f (j - c) i

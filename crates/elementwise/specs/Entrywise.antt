@@ -1,5 +1,5 @@
 -- What an elementwise call leaves: every entry is what a rule makes, and nothing else moved. Assumes nothing.
-use Rattle.std.specs.Prelude.{◌≡◌, ℕ, ◌+◌, ◌-◌, ◌≤◌, List, slice_index_or}
+use Rattle.std.specs.Prelude.{◌≡◌, ℕ, ◌+◌, ◌-◌, ◌≤◌, Bool, ◌||◌, ◌==◌, List, slice_index_or}
 use Rattle.shape.specs.Shapes.{cell, Fits}
 use Rattle.shape.specs.Lanes.{lane_for}
 use Rattle.shape.specs.Changes.{Changed, InColumn, Everywhere}
@@ -47,3 +47,7 @@ pub record BandsLawful (x : Band) (xl : ℕ) (y : Band) (yl : ℕ) : Type 0 wher
 abbrev pub banded : {S : Type 0} → (S → S → S → Type 0) → Band → List S → Band → List S → ℕ → ℕ → ℕ → S → Type 0
 banded {S = S} R x xs y ys b j i v =
     (d : S) → R (slice_index_or xs (cell x.of (lane_for b x.of.lanes y.of.lanes) (x.first + (j - y.first)) i) d) (slice_index_or ys (cell y.of b j i) d) v
+
+-- each lane's run ends where the next begins: there is one lane, or the band is all columns
+abbrev pub joined : Band → Bool
+joined y = y.of.lanes == 1 || y.count == y.of.cols

@@ -6,7 +6,7 @@ ghost use Rattle.elementwise.specs.Entrywise.{Entrywise, Tablewise, Revised, Rev
 
 use crate::revised::revise_lanes;
 use crate::rules::{Revision, Rule};
-use crate::zipped::zip_lanes;
+use crate::zipped::zip_bands;
 use shape::check::{check_column, check_pair, check_shape, check_tables};
 use shape::{Column, Refusal, TableShape};
 
@@ -67,7 +67,7 @@ impl Operand for Column {
         ys: &mut [S],
     ) -> Result<(), Refusal> {
         check_pair(x, xs.len(), y, ys.len())?;
-        zip_lanes(rule, x.band(), xs, y.band(), ys);
+        zip_bands(rule, x.band(), xs, y.band(), ys);
         Ok(())
     }
 }
@@ -100,7 +100,7 @@ impl Operand for TableShape {
         ys: &mut [S],
     ) -> Result<(), Refusal> {
         check_tables(x, xs.len(), y, ys.len())?;
-        zip_lanes(rule, x.band(), xs, y.band(), ys);
+        zip_bands(rule, x.band(), xs, y.band(), ys);
         Ok(())
     }
 }

@@ -28,7 +28,7 @@ fn rest_has_outside(rest: &[usize], rows: usize) -> bool
 }
 
 /// Some index of the list is not below `rows`. What lies behind the part that has one is not read,
-/// so a long list is refused as soon as a short one.
+/// so what a refused list costs does not grow with what lies behind that part.
 // Inlined, since a short list takes no longer than a call.
 #[inline(always)]
 #[tactic(auto, using(crate::proofs::Tested::parted))]

@@ -3,7 +3,7 @@ use Rattle.shape.specs.Shapes.{start, cell}
 use Rattle.shape.specs.Lanes.{lane_for}
 use Rattle.shape.proofs.Blocks.{band_fits}
 use Rattle.shape.proofs.Cells.{lanes_more}
-use Rattle.elementwise.proofs.Bands.{read_below, reads_from, place_in}
+use Rattle.elementwise.proofs.Bands.{read_below, reads_from, place_in, run_size}
 use Rattle.elementwise.proofs.zipped.zip_lanes.Goals as goal
 
 pub zip_part-requires : goal.zip_part-requires
@@ -20,7 +20,7 @@ zip_part-requires g c =
     let to : c.start.result ≡ start y.of lane y.first = c.start.ensures yl c.requires.target (omega arith) l in
     let s : start x.of read x.first + x.count * x.of.rows ≤ xl = band_fits x.of xl read x.first x.count c.requires.source below c.requires.source_within in
     let t : start y.of lane y.first + y.count * y.of.rows ≤ yl = band_fits y.of yl lane y.first y.count c.requires.target l c.requires.target_within in
-    let size : x.count * x.of.rows ≡ y.count * y.of.rows = ap (λ z. z * x.of.rows) c.requires.count ∙ ap (λ z. y.count * z) c.requires.rows in
+    let size = run_size x xl y yl c.requires in
     record { source = omega arith; target = omega arith }
 
 pub loop-lane-preserved : goal.loop-lane-preserved
